@@ -1,0 +1,5 @@
+.PHONY: test
+
+# The gate: every proof, must-fail edit and other check.
+test:
+	bash .ci/run

@@ -1,0 +1,10 @@
+-- The laws of the definitions, each beside the definition it is about. Callers cite these and not the definitions' text.
+pub mod Bools
+pub mod First
+pub mod Nodes
+pub mod Scheme
+pub mod Clocks
+pub mod Records
+pub mod Latest
+pub mod State
+pub mod Paths
