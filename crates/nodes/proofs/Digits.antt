@@ -4,18 +4,16 @@ use native.Mathlib.Nat.{div-one}
 use native.Mathlib.Numerals.{add-one, one-add}
 use native.Mathlib.Omega.{arith}
 use mathlib.Core.Path.{_≡_, refl, sym, ap, ap₂, subst, _∙_}
-use mathlib.Core.Logic.{⊎-elim}
-use mathlib.Core.Bool.{Bool, true, false, cond, not, _&&_, _||_, xor}
-use borrow.Author.Tests.{lt-ltb, le-ltb, eq-eqb, ne-eqb, eqb-true}
+use mathlib.Core.Bool.{Bool, true, false, _&&_, xor}
+use borrow.Author.Tests.{lt-ltb, le-ltb}
 use lib.Arith.{lt-one}
 use lib.Dec.{ltb, eqb, lit<}
 use lib.Bits.{bitAnd, bitXor, differ, and-step, xor-step, and-shr, xor-shr, and-lt, xor-lt}
 use lib.Count.{ones, ones-step}
 use lib.Pow.{shr-shr, shr-lt}
-use Rattle.rules.specs.First.{count, every}
+use Rattle.rules.specs.First.{count}
 use Rattle.rules.specs.Nodes.{nodes, has, size, shared, differing, subset}
-use Rattle.rules.proofs.Bools.{tested, and-left, and-false-right, if-then, not-then}
-use Rattle.rules.proofs.First.{one, every-at, every-fails, count-same, count-less}
+use Rattle.rules.proofs.First.{one, count-same, count-within}
 
 -- the digit that stands for a node
 abbrev digit : ℕ → ℕ → Bool
@@ -116,26 +114,6 @@ differing-is c d lc ld =
     (λ i h. digit-xor c d i ∙ rw (has-digit c i h, has-digit d i h))
 
 -- all nodes of S are in C where as many are in both as in S
-within-count : (p q : ℕ → Bool) (n : ℕ) → every (λ i. not (p i) || q i) n ≡ eqb (count (λ i. p i && q i) n) (count p n)
-within-count p q n = ⊎-elim all-in some-out (tested (every (λ i. not (p i) || q i) n))
-  where
-    all-in : every (λ i. not (p i) || q i) n ≡ true
-        → every (λ i. not (p i) || q i) n ≡ eqb (count (λ i. p i && q i) n) (count p n)
-    all-in e =
-        e ∙ sym (eq-eqb _ _ (count-same (λ i. p i && q i) p n (λ i l. keeps (p i) (q i) (if-then (p i) (q i) (every-at (λ i. not (p i) || q i) n e i l)))))
-      where
-        keeps : (a b : Bool) → (a ≡ true → b ≡ true) → a && b ≡ a
-        keeps true b h = h refl
-        keeps false b h = refl
-
-    some-out : every (λ i. not (p i) || q i) n ≡ false
-        → every (λ i. not (p i) || q i) n ≡ eqb (count (λ i. p i && q i) n) (count p n)
-    some-out e =
-        let f = every-fails (λ i. not (p i) || q i) n e in
-        let o = not-then (p (f .0)) (q (f .0)) (f .2) in
-        let l = count-less (λ i. p i && q i) p n (f .0) (λ i h k. and-left (p i) (q i) k) (f .1) (and-false-right (p (f .0)) (o .1)) (o .0) in
-        e ∙ sym (ne-eqb (count (λ i. p i && q i) n) (count p n) (λ x. omega arith))
-
 pub subset-is : (s c : ℕ) → subset s c ≡ eqb (shared s c) (size s)
 unfolding subset shared size
-subset-is s c = within-count (has s) (has c) nodes
+subset-is s c = count-within (has s) (has c) nodes

@@ -38,6 +38,10 @@ or-cases false b e = inr e
 pub or-false : {a b : Bool} → a ≡ false → b ≡ false → a || b ≡ false
 or-false p q = rw (p, q)
 
+pub or-nothing : (a : Bool) → a || false ≡ a
+or-nothing true = refl
+or-nothing false = refl
+
 pub or-left : {a : Bool} (b : Bool) → a ≡ true → a || b ≡ true
 or-left b p = rw p
 

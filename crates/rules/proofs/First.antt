@@ -4,11 +4,13 @@ use native.Mathlib.Nat.{not-suc-le-zero}
 use native.Mathlib.Decide.{ℕ-discrete}
 use native.Mathlib.Numerals.{add-one}
 use native.Mathlib.Omega.{arith}
-use mathlib.Core.Path.{_≡_, refl, sym, ap, ap₂, subst}
+use mathlib.Core.Path.{_≡_, refl, sym, ap, ap₂, subst, _∙_}
 use mathlib.Core.Logic.{_⊎_, ⊎-elim}
-use mathlib.Core.Bool.{Bool, true, false, cond, _&&_, _||_, true≢false, false≢true}
+use mathlib.Core.Bool.{Bool, true, false, cond, not, _&&_, _||_, true≢false, false≢true}
+use borrow.Author.Tests.{eq-eqb, ne-eqb}
+use lib.Dec.{eqb}
 use Rattle.rules.specs.First.{count, every, some}
-use Rattle.rules.proofs.Bools.{tested, torn, and-left, and-right, and-true, and-fails, or-cases, or-false, or-none-left, or-none-right}
+use Rattle.rules.proofs.Bools.{tested, torn, and-left, and-right, and-true, and-fails, and-false-right, or-cases, or-false, or-none-left, or-none-right, if-then, not-then}
 
 -- what holds of each number below n, and of n, holds of each below suc n
 pub below-suc : (P : ℕ → Type 0) (n : ℕ) → ((i : ℕ) → i < n → P i) → P n → (i : ℕ) → i < suc n → P i
@@ -124,3 +126,39 @@ some-more p n none here = rw add-one (or-false none here)
 
 pub every-more : (p : ℕ → Bool) (n : ℕ) → every p n ≡ true → p n ≡ true → every p (n + 1) ≡ true
 every-more p n all here = rw add-one (and-true all here)
+
+-- each that passes p passes q where as many pass both as pass p
+pub count-within : (p q : ℕ → Bool) (n : ℕ) → every (λ i. not (p i) || q i) n ≡ eqb (count (λ i. p i && q i) n) (count p n)
+count-within p q n = ⊎-elim all-in some-out (tested (every (λ i. not (p i) || q i) n))
+  where
+    all-in : every (λ i. not (p i) || q i) n ≡ true
+        → every (λ i. not (p i) || q i) n ≡ eqb (count (λ i. p i && q i) n) (count p n)
+    all-in e =
+        e ∙ sym (eq-eqb _ _ (count-same (λ i. p i && q i) p n (λ i l. keeps (p i) (q i) (if-then (p i) (q i) (every-at (λ i. not (p i) || q i) n e i l)))))
+      where
+        keeps : (a b : Bool) → (a ≡ true → b ≡ true) → a && b ≡ a
+        keeps true b h = h refl
+        keeps false b h = refl
+
+    some-out : every (λ i. not (p i) || q i) n ≡ false
+        → every (λ i. not (p i) || q i) n ≡ eqb (count (λ i. p i && q i) n) (count p n)
+    some-out e =
+        let f = every-fails (λ i. not (p i) || q i) n e in
+        let o = not-then (p (f .0)) (q (f .0)) (f .2) in
+        let l = count-less (λ i. p i && q i) p n (f .0) (λ i h k. and-left (p i) (q i) k) (f .1) (and-false-right (p (f .0)) (o .1)) (o .0) in
+        e ∙ sym (ne-eqb (count (λ i. p i && q i) n) (count p n) (λ x. omega arith))
+
+-- what holds below a number holds below a lower one
+pub every-less : (p : ℕ → Bool) (m n : ℕ) → m ≤ n → every p n ≡ true → every p m ≡ true
+every-less p m n l e = every-of p m (λ i h. every-at p n e i (omega arith))
+
+-- two tests at once
+pub every-both : (p q : ℕ → Bool) (n : ℕ) → every (λ i. p i && q i) n ≡ every p n && every q n
+every-both p q n =
+    ⊎-elim
+    (λ e. e ∙ sym (and-true (every-of p n (λ i l. and-left (p i) (q i) (every-at (λ i. p i && q i) n e i l))) (every-of q n (λ i l. and-right (p i) (q i) (every-at (λ i. p i && q i) n e i l)))))
+    (λ e. e ∙ sym (fails (tested (every p n && every q n)) e))
+    (tested (every (λ i. p i && q i) n))
+  where
+    fails : (every p n && every q n ≡ true) ⊎ (every p n && every q n ≡ false) → every (λ i. p i && q i) n ≡ false → every p n && every q n ≡ false
+    fails w e = ⊎-elim (λ t. absurd (torn (every-of (λ i. p i && q i) n (λ i l. and-true (every-at p n (and-left (every p n) (every q n) t) i l) (every-at q n (and-right (every p n) (every q n) t) i l))) e)) (λ f. f) w

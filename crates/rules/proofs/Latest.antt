@@ -1,6 +1,7 @@
 -- A search finds the latest of the wanted records, of equal ones the lowest number, and nothing else does.
-use Prim.Native.Nat.{ℕ, zero, suc, _<_}
+use Prim.Native.Nat.{ℕ, zero, suc, _+_, _<_}
 use native.Mathlib.Nat.{not-suc-le-zero}
+use native.Mathlib.Numerals.{add-one}
 use native.Mathlib.Omega.{arith}
 use mathlib.Core.Path.{_≡_, refl, sym, ap, subst, _∙_}
 use mathlib.Core.Logic.{_⊎_, inl, inr, ⊎-elim}
@@ -12,8 +13,8 @@ use lib.ListN.{length}
 use Rattle.rules.specs.declared.Record.{Record}
 use Rattle.rules.specs.declared.Found.{Found}
 use Rattle.rules.specs.declared.Found.the-variants.{At, Nothing}
-use Rattle.rules.specs.Records.{at, above}
-use Rattle.rules.specs.Tree.{later, latestOf, latest}
+use Rattle.rules.specs.Records.{at, isCommit, above}
+use Rattle.rules.specs.Tree.{later, latestOf, latest, numberOf, lastCommit, latestCommit}
 use Rattle.rules.proofs.Bools.{tested, torn}
 use Rattle.rules.proofs.First.{below-suc}
 use Rattle.rules.proofs.Records.{above-irreflexive, above-asymmetric, above-trans, not-above-trans}
@@ -127,3 +128,25 @@ latest-found {wanted} {records} {i} {r} a = go (latest wanted records) refl (lat
       where
         same : j ≡ i → q ≡ r → At j q ≡ At i r
         same p s = cc
+
+-- one record more, as a loop counts
+pub latest-wanted : (wanted : ℕ → Record → Bool) (records : List Record) (n : ℕ) → wanted n (at records n) ≡ true
+    → latestOf wanted records (n + 1) ≡ later (latestOf wanted records n) n (at records n)
+latest-wanted wanted records n e = rw (add-one, e)
+
+pub latest-passed : (wanted : ℕ → Record → Bool) (records : List Record) (n : ℕ) → wanted n (at records n) ≡ false
+    → latestOf wanted records (n + 1) ≡ latestOf wanted records n
+latest-passed wanted records n e = rw (add-one, e)
+
+-- the number of what was found is a record's, and so is 0 where nothing was
+pub latest-known : (wanted : ℕ → Record → Bool) (records : List Record) → 0 < length records
+    → numberOf (latest wanted records) < length records
+latest-known wanted records l = known (latest wanted records) (latest-right wanted records)
+  where
+    known : (f : Found) → Right wanted records (length records) f → numberOf f < length records
+    known (At i r) right = right .among
+    known Nothing right = l
+
+pub latest-commit-known : (records : List Record) → 0 < length records → latestCommit records < length records
+unfolding latestCommit lastCommit
+latest-commit-known records l = latest-known (λ i r. isCommit r) records l

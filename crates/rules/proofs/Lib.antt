@@ -6,5 +6,6 @@ pub mod Scheme
 pub mod Clocks
 pub mod Records
 pub mod Latest
+pub mod Held
 pub mod State
 pub mod Paths

@@ -155,3 +155,24 @@ module _ (records : List Record) (up : Rising records) where
           (λ e. absurd (torn (under i i z l (path-falls (at records i .parent) (up .exists i z l) i e)) (above-irreflexive (at records i))))
           (λ e. e)
           (tested (among i (path records (at records i .parent))))
+
+  -- what is on a path is a record
+  pub path-known : (i : ℕ) → i < length records → (j : ℕ) → among j (path records i) ≡ true → j < length records
+  path-known i l = climb Known root child i l
+    where
+      Known : ℕ → Type 0
+      Known i = (j : ℕ) → among j (path records i) ≡ true → j < length records
+
+      root : Known 0
+      root j e =
+          ⊎-elim
+          (λ q. let k = eqb-true j 0 q in omega arith)
+          (λ q. absurd (false≢true q))
+          (or-cases (eqb j 0) false (rw (path-root (omega arith)) at e))
+
+      child : (i : ℕ) → 0 < i → i < length records → Known (at records i .parent) → Known i
+      child i z l f j e =
+          ⊎-elim
+          (λ q. let k = eqb-true j i q in omega arith)
+          (λ q. f j q)
+          (or-cases (eqb j i) (among j (path records (at records i .parent))) (rw (path-step i z l) at e))

@@ -12,7 +12,7 @@ use Rattle.rules.specs.declared.Kind.{Kind}
 use Rattle.rules.specs.declared.Kind.the-variants.{Election, Command, Change, Commit}
 use Rattle.rules.specs.Nodes.{has}
 use Rattle.rules.specs.Records.{commitKind, isCommit, above, heldBy, holds, called}
-use Rattle.rules.proofs.Bools.{tested}
+use Rattle.rules.proofs.Bools.{tested, or-nothing}
 
 -- a < b tested, from either side of the answer
 agree : (a b c d : ℕ) → (a < b → c < d) → (b ≤ a → d ≤ c) → ltb a b ≡ ltb c d
@@ -129,3 +129,24 @@ holds-caller i r node z e = rw (ne-eqb i 0 (omega arith)) (alone (r .kind) e)
 pub holds-voters : (i : ℕ) (r : Record) (voters node : ℕ) → 0 < i → r .kind ≡ Commit voters → holds i r node ≡ has voters node
 unfolding holds
 holds-voters i r voters node z e = rw (ne-eqb i 0 (omega arith), e)
+
+-- the order, test by test
+pub above-by-time : (a b : Record) → (a .time ≡ b .time → ⊥) → above a b ≡ ltb (b .time) (a .time)
+unfolding above
+above-by-time a b d = rw (ne-eqb (b .time) (a .time) (λ e. d (sym e))) (or-nothing (ltb (b .time) (a .time)))
+
+pub above-by-version : (a b : Record) → a .time ≡ b .time → (a .version ≡ b .version → ⊥) → above a b ≡ ltb (b .version) (a .version)
+unfolding above
+above-by-version a b e d =
+    rw (le-ltb (b .time) (a .time) (omega arith), eq-eqb (b .time) (a .time) (sym e), ne-eqb (b .version) (a .version) (λ x. d (sym x)))
+    (or-nothing (ltb (b .version) (a .version)))
+
+pub above-by-kind : (a b : Record) → a .time ≡ b .time → a .version ≡ b .version → above a b ≡ isCommit a && not (isCommit b)
+unfolding above
+above-by-kind a b e f =
+    rw (
+      le-ltb (b .time) (a .time) (omega arith),
+      eq-eqb (b .time) (a .time) (sym e),
+      le-ltb (b .version) (a .version) (omega arith),
+      eq-eqb (b .version) (a .version) (sym f),
+    )

@@ -140,10 +140,13 @@ badTarget s caller target =
     || (not (called (at (s .records) target) caller)
     || not (eqb (at (s .records) target .time) (clock (s .clocks) caller))))
 
+-- the record is a commit of this caller and the target's time, with a version at or past the target's
+unfoldable pub supersedes : Record → ℕ → Record → Bool
+supersedes r caller t = isCommit r && (called r caller && (eqb (r .time) (t .time) && leb (t .version) (r .version)))
+
 -- a commit of this caller and time has a version at or past the target's
 unfoldable pub superseded : List Record → ℕ → Record → Bool
-superseded records caller t =
-    some (λ i. isCommit (at records i) && (called (at records i) caller && (eqb (at records i .time) (t .time) && leb (t .version) (at records i .version)))) (length records)
+superseded records caller t = some (λ i. supersedes (at records i) caller t) (length records)
 
 -- the commit for target t: the target's time, version and members, and the target as its parent
 abbrev pub commitFor : ℕ → Record → ℕ → ℕ → Record

@@ -53,9 +53,13 @@ base records voters = latest (heldByAny voters) records
 unfoldable pub lastCalled : List Record → ℕ → Found
 lastCalled records node = latest (λ i r. called r node) records
 
--- the latest commit, by its number
+-- the latest commit
+unfoldable pub lastCommit : List Record → Found
+lastCommit records = latest (λ i r. isCommit r) records
+
+-- its number
 unfoldable pub latestCommit : List Record → ℕ
-latestCommit records = numberOf (latest (λ i r. isCommit r) records)
+latestCommit records = numberOf (lastCommit records)
 
 -- at most `steps` records from record i by parents to record 0, both included
 abbrev pub pathOf : List Record → ℕ → ℕ → List ℕ
