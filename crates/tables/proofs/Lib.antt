@@ -1,0 +1,4 @@
+mod Clauses
+mod Matching
+mod Branch
+mod Tested
