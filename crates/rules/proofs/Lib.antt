@@ -9,3 +9,8 @@ pub mod Latest
 pub mod Held
 pub mod State
 pub mod Paths
+pub mod Choice
+pub mod Refusals
+pub mod Votes
+pub mod Searches
+pub mod Logs

@@ -1,0 +1,31 @@
+-- Agreement over a tree of records, for any scheme of members.
+pub mod Cases
+pub mod Paths
+pub mod Rising
+pub mod Nearest
+pub mod Theorem
+pub mod Clocks
+pub mod Extend
+pub mod Leaf
+pub mod Pull
+pub mod Grow
+pub mod Insert
+pub mod Push
+pub mod Inserted
+pub mod Never17
+pub mod Opening
+-- Document 01's records read as such a tree, what its proposals keep of them, and demand 3.
+pub mod Single
+pub mod Reading
+pub mod Upward
+pub mod Sound
+pub mod OneMore
+pub mod Added
+pub mod Kept
+pub mod Pulled
+pub mod Entered
+pub mod Adopted
+pub mod Pushed
+pub mod Run
+pub mod Demand
+pub mod Example

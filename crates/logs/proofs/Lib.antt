@@ -1,0 +1,2 @@
+-- Laws of numbers laid over a buffer.
+pub mod Laid
