@@ -1,2 +1,3 @@
 mod Pushed
 pub mod Shown
+pub mod Gained

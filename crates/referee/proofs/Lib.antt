@@ -5,3 +5,5 @@ mod Rests
 mod Heads
 mod Readings
 pub mod Determined
+mod Targets
+mod Commits

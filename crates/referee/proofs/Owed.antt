@@ -1,4 +1,4 @@
--- Meeting a proposal's contract: by a refusal, by a short vote, by a record added.
+-- Meeting a proposal's contract: by a refusal, by a short vote, by a record added, by what a callee meets.
 use Prim.Native.Nat.{ℕ}
 use native.Mathlib.Omega.{arith}
 use mathlib.Core.Path.{_≡_, sym, ap, _∙_}
@@ -25,3 +25,7 @@ module _ (t : Table) (result : Result) (o : Outcome) where
     where
       not-both : (x : Answer) (r : Refusal) → x ≡ Short → x ≡ Refused r → _≡_ {A = ℕ} 0 1
       not-both x r p q = cc
+
+  -- what meets one result meets another that equals it
+  pub by-same : (other : Result) → result ≡ other → Meets t other o → Meets t result o
+  by-same other e m = record { sees = m .sees ∙ sym e; keeps = m .keeps }

@@ -9,6 +9,7 @@ ghost use Prim.Native.Nat.{_≤_, _<_};
 mod entry;
 mod open;
 mod pull;
+mod push;
 mod reading;
 
 use rules::Answer;

@@ -5,26 +5,19 @@ use Rattle.referee.proofs.Views.{shown-added}
 use borrow.Author.Needs.{needs}
 use Rattle.referee.proofs.Table.add.Statement.{statement}
 use Rattle.referee.proofs.Table.add.Tie as tie
-use Rattle.referee.proofs.Table.add.Reads as reads
-use Rattle.referee.proofs.Table.add.Lts as lts
 
--- src/lib.rt:59:9
 mul-r : tie.Need-mul-r
 mul-r c = search needs
 
--- src/lib.rt:59:9
 element-set-from-r : tie.Need-element-set-from-r
 element-set-from-r c = search needs
 
--- src/lib.rt:60:23
 add-after : tie.Need-add-after
 add-after c = search needs
 
--- src/lib.rt:63:38
 cast-t9 : tie.Need-cast-t9
 cast-t9 c = search needs
 
--- src/lib.rt:51:5
 returns : tie.Need-returns
 returns c =
     let t = c .args .self in
