@@ -151,14 +151,3 @@ count-within p q n = ⊎-elim all-in some-out (tested (every (λ i. not (p i) ||
 -- what holds below a number holds below a lower one
 pub every-less : (p : ℕ → Bool) (m n : ℕ) → m ≤ n → every p n ≡ true → every p m ≡ true
 every-less p m n l e = every-of p m (λ i h. every-at p n e i (omega arith))
-
--- two tests at once
-pub every-both : (p q : ℕ → Bool) (n : ℕ) → every (λ i. p i && q i) n ≡ every p n && every q n
-every-both p q n =
-    ⊎-elim
-    (λ e. e ∙ sym (and-true (every-of p n (λ i l. and-left (p i) (q i) (every-at (λ i. p i && q i) n e i l))) (every-of q n (λ i l. and-right (p i) (q i) (every-at (λ i. p i && q i) n e i l)))))
-    (λ e. e ∙ sym (fails (tested (every p n && every q n)) e))
-    (tested (every (λ i. p i && q i) n))
-  where
-    fails : (every p n && every q n ≡ true) ⊎ (every p n && every q n ≡ false) → every (λ i. p i && q i) n ≡ false → every p n && every q n ≡ false
-    fails w e = ⊎-elim (λ t. absurd (torn (every-of (λ i. p i && q i) n (λ i l. and-true (every-at p n (and-left (every p n) (every q n) t) i l) (every-at q n (and-right (every p n) (every q n) t) i l))) e)) (λ f. f) w
