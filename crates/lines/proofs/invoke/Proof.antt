@@ -6,7 +6,7 @@ use Rattle.lines.proofs.invoke.Statement.{statement}
 use Rattle.lines.proofs.invoke.Tie as tie
 
 pair-requires : tie.Need-pair-requires
-pair-requires c κs = search needs
+pair-requires c κs = tt
 
 enum-known-caller : tie.Need-enum-known-caller
 enum-known-caller c = search needs

@@ -6,7 +6,7 @@ use Rattle.lines.proofs.lettered.Statement.{statement}
 use Rattle.lines.proofs.lettered.Tie as tie
 
 open-with-requires : tie.Need-open-with-requires
-open-with-requires c κs = search needs
+open-with-requires c κs = tt
 
 returns : tie.Need-returns
 unfolding lettered
@@ -16,7 +16,7 @@ returns c =
     (c .open-with .ensures)
 
 pull-requires : tie.Need-pull-requires
-pull-requires c κs = search needs
+pull-requires c κs = tt
 
 returns-2 : tie.Need-returns-2
 unfolding lettered
@@ -29,7 +29,7 @@ returns-2 c =
     (c .pull .ensures)
 
 invoke-requires : tie.Need-invoke-requires
-invoke-requires c κs = search needs
+invoke-requires c κs = tt
 
 returns-3 : tie.Need-returns-3
 unfolding lettered
@@ -43,7 +43,7 @@ returns-3 c =
     (c .invoke .ensures)
 
 reconfigure-requires : tie.Need-reconfigure-requires
-reconfigure-requires c κs = search needs
+reconfigure-requires c κs = tt
 
 returns-4 : tie.Need-returns-4
 unfolding lettered
@@ -58,7 +58,7 @@ returns-4 c =
     (c .reconfigure .ensures)
 
 push-requires : tie.Need-push-requires
-push-requires c κs = search needs
+push-requires c κs = tt
 
 returns-5 : tie.Need-returns-5
 unfolding lettered

@@ -10,7 +10,7 @@ use Rattle.lines.proofs.open_with.Statement.{statement}
 use Rattle.lines.proofs.open_with.Tie as tie
 
 only-requires : tie.Need-only-requires
-only-requires c κs = search needs
+only-requires c κs = tt
 
 enum-known-set : tie.Need-enum-known-set
 enum-known-set c = search needs

@@ -43,7 +43,7 @@ part-lettered-end : tie.Need-part-lettered-end
 part-lettered-end c = search needs
 
 lettered-requires : tie.Need-lettered-requires
-lettered-requires c κs = search needs
+lettered-requires c κs = tt
 
 returns-6 : tie.Need-returns-6
 returns-6 c =

@@ -15,22 +15,22 @@ cast-put-numbered : tie.Need-cast-put-numbered
 cast-put-numbered c = search needs
 
 put-numbered-requires : tie.Need-put-numbered-requires
-put-numbered-requires c κs = search needs
+put-numbered-requires c κs = tt
 
 enum-told : tie.Need-enum-told
 enum-told c = search needs
 
 put-letter-requires : tie.Need-put-letter-requires
-put-letter-requires c κs = search needs
+put-letter-requires c κs = tt
 
 enum-known-answer-2 : tie.Need-enum-known-answer-2
 enum-known-answer-2 c = search needs
 
 number-requires : tie.Need-number-requires
-number-requires c κs = search needs
+number-requires c κs = tt
 
 put-numbered-requires-2 : tie.Need-put-numbered-requires-2
-put-numbered-requires-2 c κs = search needs
+put-numbered-requires-2 c κs = tt
 
 same-length : tie.Need-same-length
 same-length c = search needs

@@ -25,7 +25,7 @@ room c =
     omega arith
 
 width-requires : tie.Need-width-requires
-width-requires c κs = search needs
+width-requires c κs = tt
 
 add-if1 : tie.Need-add-if1
 add-if1 c = omega (arith, digits-count (length (c .before .before .before .args .log .now)))
@@ -40,7 +40,7 @@ sub-room-2 : tie.Need-sub-room-2
 sub-room-2 c = search needs
 
 fits-requires : tie.Need-fits-requires
-fits-requires c κs = search needs
+fits-requires c κs = tt
 
 returns-2 : tie.Need-returns-2
 returns-2 c =
@@ -55,10 +55,10 @@ slice-write-out : tie.Need-slice-write-out
 slice-write-out c = search needs
 
 put-number-requires : tie.Need-put-number-requires
-put-number-requires c κs = search needs
+put-number-requires c κs = tt
 
 put-numbers-requires : tie.Need-put-numbers-requires
-put-numbers-requires c κs = search needs
+put-numbers-requires c κs = tt
 
 slice-write-out-2 : tie.Need-slice-write-out-2
 slice-write-out-2 c =

@@ -10,7 +10,7 @@ use Rattle.lines.proofs.reconfigure.Statement.{statement}
 use Rattle.lines.proofs.reconfigure.Tie as tie
 
 pair-requires : tie.Need-pair-requires
-pair-requires c κs = search needs
+pair-requires c κs = tt
 
 enum-known-caller : tie.Need-enum-known-caller
 enum-known-caller c = search needs

@@ -16,7 +16,7 @@ abbrev μ-loop : tie.MeasureT-loop
 μ-loop count target new n after₀ i₀ after i = n - i
 
 used-requires : tie.Need-used-requires Inv-loop μ-loop
-used-requires c κs = search needs
+used-requires c κs = tt
 
 loop-holds : tie.Need-loop-holds Inv-loop μ-loop
 unfolding used
@@ -29,7 +29,7 @@ array-copy-out-r : tie.Need-array-copy-out-r Inv-loop μ-loop
 array-copy-out-r c = search needs
 
 adopted-requires : tie.Need-adopted-requires Inv-loop μ-loop
-adopted-requires c κs = search needs
+adopted-requires c κs = tt
 
 mul-after : tie.Need-mul-after Inv-loop μ-loop
 mul-after c = search needs

@@ -52,7 +52,7 @@ array-copy-out-r : tie.Need-array-copy-out-r Inv-loop μ-loop
 array-copy-out-r c = search needs
 
 is-entry-requires : tie.Need-is-entry-requires Inv-loop μ-loop
-is-entry-requires c κs = search needs
+is-entry-requires c κs = tt
 
 add-met : tie.Need-add-met Inv-loop μ-loop
 add-met c = search needs

@@ -5,7 +5,7 @@ use Rattle.nodes.proofs.quorum.Statement.{statement}
 use Rattle.nodes.proofs.quorum.Tie as tie
 
 majority-requires : tie.Need-majority-requires
-majority-requires c κs = search needs
+majority-requires c κs = tt
 
 returns : tie.Need-returns
 unfolding quorum

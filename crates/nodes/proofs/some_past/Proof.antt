@@ -11,7 +11,7 @@ add-some-reaches : tie.Need-add-some-reaches
 add-some-reaches c = search needs
 
 some-reaches-requires : tie.Need-some-reaches-requires
-some-reaches-requires c κs = search needs
+some-reaches-requires c κs = tt
 
 returns : tie.Need-returns
 unfolding someAtOrPast somePast

@@ -5,7 +5,7 @@ use Rattle.nodes.proofs.within.Statement.{statement}
 use Rattle.nodes.proofs.within.Tie as tie
 
 subset-requires : tie.Need-subset-requires
-subset-requires c κs = search needs
+subset-requires c κs = tt
 
 returns : tie.Need-returns
 unfolding within

@@ -44,7 +44,7 @@ array-copy-out-r : tie.Need-array-copy-out-r Inv-loop μ-loop
 array-copy-out-r c = search needs
 
 is-commit-requires : tie.Need-is-commit-requires Inv-loop μ-loop
-is-commit-requires c κs = search needs
+is-commit-requires c κs = tt
 
 returns : tie.Need-returns Inv-loop μ-loop
 returns c =

@@ -38,10 +38,10 @@ array-copy-out-r : tie.Need-array-copy-out-r Inv-loop μ-loop
 array-copy-out-r c = search needs
 
 is-commit-requires : tie.Need-is-commit-requires Inv-loop μ-loop
-is-commit-requires c κs = search needs
+is-commit-requires c κs = tt
 
 is-change-requires : tie.Need-is-change-requires Inv-loop μ-loop
-is-change-requires c κs = search needs
+is-change-requires c κs = tt
 
 cast-at : tie.Need-cast-at Inv-loop μ-loop
 cast-at c = search needs

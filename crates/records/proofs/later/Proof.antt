@@ -19,7 +19,7 @@ returns c =
     sym (ap (λ f. later f (s .i) (s .r)) (c .enum-told .given .1))
 
 above-requires : tie.Need-above-requires
-above-requires c κs = search needs
+above-requires c κs = tt
 
 returns-2 : tie.Need-returns-2
 returns-2 c =

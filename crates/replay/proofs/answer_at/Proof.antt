@@ -24,7 +24,7 @@ part-answered-end : tie.Need-part-answered-end
 part-answered-end c = search needs
 
 answered-requires : tie.Need-answered-requires
-answered-requires c κs = search needs
+answered-requires c κs = tt
 
 same-length : tie.Need-same-length
 same-length c = search needs

@@ -19,7 +19,7 @@ shared-slice-read-take : tie.Need-shared-slice-read-take Inv-loop μ-loop
 shared-slice-read-take c = search needs
 
 take-requires : tie.Need-take-requires Inv-loop μ-loop
-take-requires c κs = search needs
+take-requires c κs = tt
 
 add-i : tie.Need-add-i Inv-loop μ-loop
 add-i c = search needs

@@ -10,13 +10,13 @@ abbrev μ-loop : tie.MeasureT-loop
 μ-loop t₀ turns₀ t turns = turns
 
 open-requires : tie.Need-open-requires Inv-loop μ-loop
-open-requires c κs = search needs
+open-requires c κs = tt
 
 loop-holds : tie.Need-loop-holds Inv-loop μ-loop
 loop-holds c = search needs
 
 turn-requires : tie.Need-turn-requires Inv-loop μ-loop
-turn-requires c κs = search needs
+turn-requires c κs = tt
 
 sub-turns : tie.Need-sub-turns Inv-loop μ-loop
 sub-turns c = search needs

@@ -9,7 +9,7 @@ slice-aggregate-print-log : tie.Need-slice-aggregate-print-log
 slice-aggregate-print-log c = simp length-take (omega arith)
 
 print-log-requires : tie.Need-print-log-requires
-print-log-requires c κs = search needs
+print-log-requires c κs = tt
 
 slice-reshare-prefix-write-all : tie.Need-slice-reshare-prefix-write-all
 slice-reshare-prefix-write-all c = search needs
@@ -18,7 +18,7 @@ slice-aggregate-write-all : tie.Need-slice-aggregate-write-all
 slice-aggregate-write-all c = simp length-take (omega arith)
 
 write-all-requires : tie.Need-write-all-requires
-write-all-requires c κs = search needs
+write-all-requires c κs = tt
 
 same-length : tie.Need-same-length
 same-length c = search needs

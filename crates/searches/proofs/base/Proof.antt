@@ -33,7 +33,7 @@ abbrev μ-records : tie.MeasureT-records
 μ-records count voters records n best₀ i₀ best i = n - i
 
 used-requires : tie.Need-used-requires Inv-loop μ-loop Inv-records μ-records
-used-requires c κs = search needs
+used-requires c κs = tt
 
 records-holds : tie.Need-records-holds Inv-loop μ-loop Inv-records μ-records
 records-holds c = search needs
@@ -48,16 +48,16 @@ loop-holds : tie.Need-loop-holds Inv-loop μ-loop Inv-records μ-records
 loop-holds c = search needs
 
 has-requires : tie.Need-has-requires Inv-loop μ-loop Inv-records μ-records
-has-requires c κs = search needs
+has-requires c κs = tt
 
 holds-requires : tie.Need-holds-requires Inv-loop μ-loop Inv-records μ-records
-holds-requires c κs = search needs
+holds-requires c κs = tt
 
 cast-later : tie.Need-cast-later Inv-loop μ-loop Inv-records μ-records
 cast-later c = omega (arith, used-small (c .before .before .before .before .before .before .before .before .before .before .args .count), c .before .before .before .before .before .loop .inv .2)
 
 later-requires : tie.Need-later-requires Inv-loop μ-loop Inv-records μ-records
-later-requires c κs = search needs
+later-requires c κs = tt
 
 add-i : tie.Need-add-i Inv-loop μ-loop Inv-records μ-records
 add-i c = omega (arith, used-small (c .before .before .before .before .before .before .before .before .before .before .before .args .count), c .before .before .before .before .before .before .loop .inv .2)

@@ -26,7 +26,7 @@ abbrev μ-loop : tie.MeasureT-loop
 μ-loop count records n best₀ i₀ best i = n - i
 
 used-requires : tie.Need-used-requires Inv-loop μ-loop
-used-requires c κs = search needs
+used-requires c κs = tt
 
 loop-holds : tie.Need-loop-holds Inv-loop μ-loop
 loop-holds c = search needs
@@ -38,13 +38,13 @@ array-copy-out-r : tie.Need-array-copy-out-r Inv-loop μ-loop
 array-copy-out-r c = omega (arith, used-small (c .before .before .before .args .count))
 
 is-commit-requires : tie.Need-is-commit-requires Inv-loop μ-loop
-is-commit-requires c κs = search needs
+is-commit-requires c κs = tt
 
 cast-later : tie.Need-cast-later Inv-loop μ-loop
 cast-later c = omega (arith, used-small (c .before .before .before .before .before .before .args .count))
 
 later-requires : tie.Need-later-requires Inv-loop μ-loop
-later-requires c κs = search needs
+later-requires c κs = tt
 
 add-i : tie.Need-add-i Inv-loop μ-loop
 add-i c = omega (arith, used-small (c .before .before .before .before .before .before .args .count))

@@ -31,7 +31,7 @@ abbrev μ-loop : tie.MeasureT-loop
 μ-loop count records n i₀ i = n - i
 
 used-requires : tie.Need-used-requires Inv-loop μ-loop
-used-requires c κs = search needs
+used-requires c κs = tt
 
 loop-holds : tie.Need-loop-holds Inv-loop μ-loop
 loop-holds c = search needs
@@ -52,7 +52,7 @@ array-copy-out-p : tie.Need-array-copy-out-p Inv-loop μ-loop
 array-copy-out-p c = search needs
 
 shaped-by-requires : tie.Need-shaped-by-requires Inv-loop μ-loop
-shaped-by-requires c κs = search needs
+shaped-by-requires c κs = tt
 
 returns : tie.Need-returns Inv-loop μ-loop
 unfolding allShaped

@@ -48,7 +48,7 @@ array-copy-out-r : tie.Need-array-copy-out-r Inv-loop μ-loop
 array-copy-out-r c = search needs
 
 is-commit-requires : tie.Need-is-commit-requires Inv-loop μ-loop
-is-commit-requires c κs = search needs
+is-commit-requires c κs = tt
 
 add-met : tie.Need-add-met Inv-loop μ-loop
 add-met c = search needs

@@ -28,7 +28,7 @@ abbrev μ-loop : tie.MeasureT-loop
 μ-loop places records n met₀ i₀ met i = n - i
 
 used-requires : tie.Need-used-requires Inv-loop μ-loop
-used-requires c κs = search needs
+used-requires c κs = tt
 
 loop-holds : tie.Need-loop-holds Inv-loop μ-loop
 loop-holds c = search needs
@@ -40,7 +40,7 @@ array-copy-out-r : tie.Need-array-copy-out-r Inv-loop μ-loop
 array-copy-out-r c = omega (arith, used-small (c .before .before .before .args .count))
 
 is-commit-requires : tie.Need-is-commit-requires Inv-loop μ-loop
-is-commit-requires c κs = search needs
+is-commit-requires c κs = tt
 
 add-met : tie.Need-add-met Inv-loop μ-loop
 add-met c =

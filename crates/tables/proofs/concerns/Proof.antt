@@ -7,14 +7,14 @@ use Rattle.tables.proofs.concerns.Statement.{statement}
 use Rattle.tables.proofs.concerns.Tie as tie
 
 holds-requires : tie.Need-holds-requires
-holds-requires c κs = search needs
+holds-requires c κs = tt
 
 returns : tie.Need-returns
 unfolding concerns
 returns c = rw (sym (c .before .holds .ensures) ∙ c .if1 .taken)
 
 called-requires : tie.Need-called-requires
-called-requires c κs = search needs
+called-requires c κs = tt
 
 returns-2 : tie.Need-returns-2
 unfolding concerns

@@ -25,7 +25,7 @@ unfolding isOpening
 returns-4 c = rw (eq-eqb _ _ (c .before .before .before .before .before .before .if1 .left), eq-eqb _ _ (c .before .before .before .before .if2 .left), eq-eqb _ _ (c .before .before .if3 .left), ne-eqb _ _ (c .if4 .taken))
 
 commit-by-requires : tie.Need-commit-by-requires
-commit-by-requires c κs = search needs
+commit-by-requires c κs = tt
 
 returns-5 : tie.Need-returns-5
 unfolding isOpening

@@ -27,7 +27,7 @@ returns-3 c =
     rw (lt-ltb (s .r .caller) 16 (omega arith), ne-eqb _ _ (c .before .before .if2 .left), le-ltb (s .r .parent) (s .n) (c .if3 .taken))
 
 above-requires : tie.Need-above-requires
-above-requires c κs = search needs
+above-requires c κs = tt
 
 returns-4 : tie.Need-returns-4
 unfolding shapedBy nodes empty

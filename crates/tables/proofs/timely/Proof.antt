@@ -37,7 +37,7 @@ array-read-if1 : tie.Need-array-read-if1 Inv-loop μ-loop
 array-read-if1 c = search needs
 
 concerns-requires : tie.Need-concerns-requires Inv-loop μ-loop
-concerns-requires c κs = search needs
+concerns-requires c κs = tt
 
 returns : tie.Need-returns Inv-loop μ-loop
 returns c =

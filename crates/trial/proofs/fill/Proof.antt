@@ -14,7 +14,7 @@ loop-holds : tie.Need-loop-holds Inv-loop μ-loop
 loop-holds c = search needs
 
 invoke-requires : tie.Need-invoke-requires Inv-loop μ-loop
-invoke-requires c κs = search needs
+invoke-requires c κs = tt
 
 add-i : tie.Need-add-i Inv-loop μ-loop
 add-i c = search needs

@@ -7,13 +7,13 @@ use Rattle.lines.proofs.read.only.Statement.{statement}
 use Rattle.lines.proofs.read.only.Tie as tie
 
 front-requires : tie.Need-front-requires
-front-requires c κs = search needs
+front-requires c κs = tt
 
 returns : tie.Need-returns
 returns c = let s = c .before .before .before .args in sym (one-long (s .rest .now) (s .most) (omega arith))
 
 numeral-requires : tie.Need-numeral-requires
-numeral-requires c κs = search needs
+numeral-requires c κs = tt
 
 returns-2 : tie.Need-returns-2
 returns-2 c =

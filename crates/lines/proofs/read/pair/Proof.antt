@@ -9,7 +9,7 @@ use Rattle.lines.proofs.read.pair.Statement.{statement}
 use Rattle.lines.proofs.read.pair.Tie as tie
 
 front-requires : tie.Need-front-requires
-front-requires c κs = search needs
+front-requires c κs = tt
 
 returns : tie.Need-returns
 returns c = let s = c .before .before .before .args in sym (two-short (s .rest .now) (s .a) (s .b) (omega arith))
@@ -23,7 +23,7 @@ slice-aggregate-numeral c =
     sym (length-take-le (at .front .result) (at .before .before .args .rest .now) (omega arith))
 
 numeral-requires : tie.Need-numeral-requires
-numeral-requires c κs = search needs
+numeral-requires c κs = tt
 
 sub-only : tie.Need-sub-only
 sub-only c = search needs
@@ -35,10 +35,10 @@ part-only-end : tie.Need-part-only-end
 part-only-end c = search needs
 
 only-requires : tie.Need-only-requires
-only-requires c κs = search needs
+only-requires c κs = tt
 
 both-requires : tie.Need-both-requires
-both-requires c κs = search needs
+both-requires c κs = tt
 
 returns-2 : tie.Need-returns-2
 returns-2 c =

@@ -30,7 +30,7 @@ cast-width : tie.Need-cast-width Inv-loop μ-loop
 cast-width c = omega (arith, c .shared-slice-known2 .given (c .before .before .loop .i))
 
 width-requires : tie.Need-width-requires Inv-loop μ-loop
-width-requires c κs = search needs
+width-requires c κs = tt
 
 returns : tie.Need-returns Inv-loop μ-loop
 returns c =

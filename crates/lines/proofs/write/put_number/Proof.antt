@@ -23,7 +23,7 @@ abbrev μ-loop : tie.MeasureT-loop
 μ-loop n at out₀ count rest₀ place₀ out rest place = rest
 
 width-requires : tie.Need-width-requires Inv-loop μ-loop
-width-requires c κs = search needs
+width-requires c κs = tt
 
 returns : tie.Need-returns Inv-loop μ-loop
 returns c = let s = c .before .before .before .args in sym (put-none (spaced (s .n)) (s .at) (s .out .now) (omega arith))

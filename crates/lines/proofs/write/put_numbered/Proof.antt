@@ -10,7 +10,7 @@ use Rattle.lines.proofs.write.put_numbered.Statement.{statement}
 use Rattle.lines.proofs.write.put_numbered.Tie as tie
 
 width-requires : tie.Need-width-requires
-width-requires c κs = search needs
+width-requires c κs = tt
 
 add-if1 : tie.Need-add-if1
 add-if1 c = omega (arith, digits-count (c .before .before .args .n))
@@ -22,7 +22,7 @@ slice-write-out : tie.Need-slice-write-out
 slice-write-out c = search needs
 
 put-number-requires : tie.Need-put-number-requires
-put-number-requires c κs = search needs
+put-number-requires c κs = tt
 
 slice-write-out-2 : tie.Need-slice-write-out-2
 slice-write-out-2 c =

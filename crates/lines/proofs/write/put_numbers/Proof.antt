@@ -29,7 +29,7 @@ sub-fits : tie.Need-sub-fits Inv-loop μ-loop
 sub-fits c = search needs
 
 fits-requires : tie.Need-fits-requires Inv-loop μ-loop
-fits-requires c κs = search needs
+fits-requires c κs = tt
 
 returns-2 : tie.Need-returns-2 Inv-loop μ-loop
 returns-2 c =
@@ -57,7 +57,7 @@ cast-put-number : tie.Need-cast-put-number Inv-loop μ-loop
 cast-put-number c = omega (arith, c .shared-slice-known2 .given (c .before .before .loop .i))
 
 put-number-requires : tie.Need-put-number-requires Inv-loop μ-loop
-put-number-requires c κs = search needs
+put-number-requires c κs = tt
 
 add-i : tie.Need-add-i Inv-loop μ-loop
 add-i c = search needs

@@ -18,10 +18,10 @@ use Rattle.referee.proofs.Table.change.Statement.{statement}
 use Rattle.referee.proofs.Table.change.Tie as tie
 
 has-requires : tie.Need-has-requires
-has-requires c κs = search needs
+has-requires c κs = tt
 
 refused-requires : tie.Need-refused-requires
-refused-requires c κs = search needs
+refused-requires c κs = tt
 
 returns : tie.Need-returns
 returns c =
@@ -31,10 +31,10 @@ returns c =
     (changed-3 (view t) (s .i) (s .h) (s .caller) (s .new) (sym (c .before .before .has .ensures) ∙ not-true _ (c .before .if1 .taken)))
 
 next-requires : tie.Need-next-requires
-next-requires c κs = search needs
+next-requires c κs = tt
 
 refused-requires-2 : tie.Need-refused-requires-2
-refused-requires-2 c κs = search needs
+refused-requires-2 c κs = tt
 
 returns-2 : tie.Need-returns-2
 returns-2 c =
@@ -44,10 +44,10 @@ returns-2 c =
     (changed-9 (view t) (s .i) (s .h) (s .caller) (s .new) (sym (c .before .before .before .before .has .ensures) ∙ not-false _ (c .before .before .before .if1 .left)) (sym (c .before .before .next .ensures) ∙ not-true _ (c .before .if2 .taken)))
 
 open-change-requires : tie.Need-open-change-requires
-open-change-requires c κs = search needs
+open-change-requires c κs = tt
 
 refused-requires-3 : tie.Need-refused-requires-3
-refused-requires-3 c κs = search needs
+refused-requires-3 c κs = tt
 
 returns-3 : tie.Need-returns-3
 returns-3 c =
@@ -63,10 +63,10 @@ returns-3 c =
     (changed-10 (view t) (s .i) (s .h) (s .caller) (s .new) (sym (c .before .before .before .before .before .before .before .has .ensures) ∙ not-false _ (c .before .before .before .before .before .before .if1 .left)) (sym (c .before .before .before .before .before .next .ensures) ∙ not-false _ (c .before .before .before .before .if2 .left)) (ap (λ rs. openChange rs (s .i)) all ∙ sym (open-shown (t .records) (t .count) fits up (s .i) here) ∙ sym (c .before .before .open-change .ensures) ∙ c .before .if3 .taken))
 
 commit-of-time-requires : tie.Need-commit-of-time-requires
-commit-of-time-requires c κs = search needs
+commit-of-time-requires c κs = tt
 
 refused-requires-4 : tie.Need-refused-requires-4
-refused-requires-4 c κs = search needs
+refused-requires-4 c κs = tt
 
 returns-4 : tie.Need-returns-4
 returns-4 c =

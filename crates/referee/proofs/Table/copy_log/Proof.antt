@@ -13,7 +13,7 @@ use Rattle.referee.proofs.Table.copy_log.Statement.{statement}
 use Rattle.referee.proofs.Table.copy_log.Tie as tie
 
 is-table-requires : tie.Need-is-table-requires
-is-table-requires c κs = search needs
+is-table-requires c κs = tt
 
 returns : tie.Need-returns
 returns c = let s = c .before .before .before .args in sym (no-copy (view (s .self)) (sym (c .before .is-table .ensures) ∙ not-true _ (c .if1 .taken)) (now (s .buffer)))
@@ -27,7 +27,7 @@ returns-2 c =
     sym (copy-short (view t) yes (now (s .buffer)) (omega (arith, size, c .if2 .taken)))
 
 copy-requires : tie.Need-copy-requires
-copy-requires c κs = search needs
+copy-requires c κs = tt
 
 cast-t13 : tie.Need-cast-t13
 cast-t13 c =

@@ -17,10 +17,10 @@ use Rattle.referee.proofs.Table.elect.Statement.{statement}
 use Rattle.referee.proofs.Table.elect.Tie as tie
 
 within-requires : tie.Need-within-requires
-within-requires c κs = search needs
+within-requires c κs = tt
 
 refused-requires : tie.Need-refused-requires
-refused-requires c κs = search needs
+refused-requires c κs = tt
 
 returns : tie.Need-returns
 unfolding electedOn
@@ -30,10 +30,10 @@ returns c =
     (rw (sym (c .before .before .within .ensures) ∙ not-true _ (c .before .if1 .taken)))
 
 moved-requires : tie.Need-moved-requires
-moved-requires c κs = search needs
+moved-requires c κs = tt
 
 quorum-requires : tie.Need-quorum-requires
-quorum-requires c κs = search needs
+quorum-requires c κs = tt
 
 returns-2 : tie.Need-returns-2
 returns-2 c =
@@ -46,7 +46,7 @@ returns-2 c =
     ∙ sym (elected-short (view t) (s .i) (s .b) (s .caller) (s .voters) (s .time) inside lost))
 
 refused-requires-2 : tie.Need-refused-requires-2
-refused-requires-2 c κs = search needs
+refused-requires-2 c κs = tt
 
 returns-3 : tie.Need-returns-3
 unfolding electedOn

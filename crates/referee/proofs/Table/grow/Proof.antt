@@ -15,7 +15,7 @@ use Rattle.referee.proofs.Table.grow.Statement.{statement}
 use Rattle.referee.proofs.Table.grow.Tie as tie
 
 refused-requires : tie.Need-refused-requires
-refused-requires c κs = search needs
+refused-requires c κs = tt
 
 returns : tie.Need-returns
 returns c =
@@ -25,7 +25,7 @@ returns c =
     (grown-13 (view t) (s .i) (s .h) (s .caller) (s .members) (s .kind) (eq-eqb (s .h .version) 255 (c .before .if1 .taken)))
 
 refused-requires-2 : tie.Need-refused-requires-2
-refused-requires-2 c κs = search needs
+refused-requires-2 c κs = tt
 
 returns-2 : tie.Need-returns-2
 returns-2 c =

@@ -15,10 +15,10 @@ use Rattle.referee.proofs.Table.invoke.Statement.{statement}
 use Rattle.referee.proofs.Table.invoke.Tie as tie
 
 is-table-requires : tie.Need-is-table-requires
-is-table-requires c κs = search needs
+is-table-requires c κs = tt
 
 refused-requires : tie.Need-refused-requires
-refused-requires c κs = search needs
+refused-requires c κs = tt
 
 returns : tie.Need-returns
 returns c =
@@ -28,7 +28,7 @@ returns c =
     (invoke-16 (view t) (s .caller) (s .number) (sym (c .before .before .is-table .ensures) ∙ not-true _ (c .before .if1 .taken)))
 
 refused-requires-2 : tie.Need-refused-requires-2
-refused-requires-2 c κs = search needs
+refused-requires-2 c κs = tt
 
 returns-2 : tie.Need-returns-2
 returns-2 c =
@@ -38,7 +38,7 @@ returns-2 c =
     (invoke-2 (view t) (s .caller) (s .number) (sym (c .before .before .before .is-table .ensures) ∙ not-false _ (c .before .before .if1 .left)) (lt-ltb 15 (s .caller) (c .before .if2 .taken)))
 
 last-called-requires : tie.Need-last-called-requires
-last-called-requires c κs = search needs
+last-called-requires c κs = tt
 
 enum-known-head : tie.Need-enum-known-head
 enum-known-head c = search needs
@@ -47,7 +47,7 @@ enum-told : tie.Need-enum-told
 enum-told c = search needs
 
 refused-requires-3 : tie.Need-refused-requires-3
-refused-requires-3 c κs = search needs
+refused-requires-3 c κs = tt
 
 returns-3 : tie.Need-returns-3
 returns-3 c =
@@ -65,7 +65,7 @@ array-read-if3 : tie.Need-array-read-if3
 array-read-if3 c = search needs
 
 refused-requires-4 : tie.Need-refused-requires-4
-refused-requires-4 c κs = search needs
+refused-requires-4 c κs = tt
 
 returns-4 : tie.Need-returns-4
 returns-4 c =

@@ -11,7 +11,7 @@ use Rattle.referee.proofs.Table.log_length.Statement.{statement}
 use Rattle.referee.proofs.Table.log_length.Tie as tie
 
 is-table-requires : tie.Need-is-table-requires
-is-table-requires c κs = search needs
+is-table-requires c κs = tt
 
 returns : tie.Need-returns
 returns c = sym (no-length (view (c .before .before .args .self)) (sym (c .before .is-table .ensures) ∙ not-true _ (c .if1 .taken)))

@@ -12,7 +12,7 @@ use Rattle.referee.proofs.Table.open.Statement.{statement}
 use Rattle.referee.proofs.Table.open.Tie as tie
 
 fresh-requires : tie.Need-fresh-requires
-fresh-requires c κs = search needs
+fresh-requires c κs = tt
 
 returns : tie.Need-returns
 unfolding opened empty
@@ -22,7 +22,7 @@ returns c =
     ap (λ s. result s (Refused EmptySet)) (c .fresh .ensures) ∙ sym refused
 
 fresh-requires-2 : tie.Need-fresh-requires-2
-fresh-requires-2 c κs = search needs
+fresh-requires-2 c κs = tt
 
 returns-2 : tie.Need-returns-2
 unfolding opened empty

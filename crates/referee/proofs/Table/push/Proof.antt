@@ -30,10 +30,10 @@ small : (c : tie.Else1) → c .before .before .args .self .count ≤ 256
 small c = let s = c .before .before .args .self in few (s .clocks) (s .records) (s .count) (s .log) (s .length) (table c)
 
 is-table-requires : tie.Need-is-table-requires
-is-table-requires c κs = search needs
+is-table-requires c κs = tt
 
 refused-requires : tie.Need-refused-requires
-refused-requires c κs = search needs
+refused-requires c κs = tt
 
 returns : tie.Need-returns
 returns c =
@@ -42,7 +42,7 @@ returns c =
     (no-table (view (a .self)) (a .caller) (a .voters) (a .target) (sym (c .before .before .is-table .ensures) ∙ not-true _ (c .before .if1 .taken)))
 
 refused-requires-2 : tie.Need-refused-requires-2
-refused-requires-2 c κs = search needs
+refused-requires-2 c κs = tt
 
 returns-2 : tie.Need-returns-2
 returns-2 c =
@@ -51,7 +51,7 @@ returns-2 c =
     (no-caller (view (a .self)) (a .caller) (a .voters) (a .target) (table (c .before .before)) (c .before .if2 .taken))
 
 last-called-requires : tie.Need-last-called-requires
-last-called-requires c κs = search needs
+last-called-requires c κs = tt
 
 enum-known-head : tie.Need-enum-known-head
 enum-known-head c = search needs
@@ -60,7 +60,7 @@ enum-told : tie.Need-enum-told
 enum-told c = search needs
 
 refused-requires-3 : tie.Need-refused-requires-3
-refused-requires-3 c κs = search needs
+refused-requires-3 c κs = tt
 
 returns-3 : tie.Need-returns-3
 returns-3 c =
@@ -77,7 +77,7 @@ array-read-if3 : tie.Need-array-read-if3
 array-read-if3 c = search needs
 
 refused-requires-4 : tie.Need-refused-requires-4
-refused-requires-4 c κs = search needs
+refused-requires-4 c κs = tt
 
 returns-4 : tie.Need-returns-4
 returns-4 c =
@@ -99,7 +99,7 @@ leader c =
     ∙ eq-eqb _ _ (c .if3 .left)
 
 refused-requires-5 : tie.Need-refused-requires-5
-refused-requires-5 c κs = search needs
+refused-requires-5 c κs = tt
 
 returns-5 : tie.Need-returns-5
 returns-5 c =
@@ -122,10 +122,10 @@ array-read-is-target : tie.Need-array-read-is-target
 array-read-is-target c = search needs
 
 is-target-requires : tie.Need-is-target-requires
-is-target-requires c κs = search needs
+is-target-requires c κs = tt
 
 refused-requires-6 : tie.Need-refused-requires-6
-refused-requires-6 c κs = search needs
+refused-requires-6 c κs = tt
 
 returns-6 : tie.Need-returns-6
 returns-6 c =

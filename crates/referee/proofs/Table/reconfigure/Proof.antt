@@ -16,10 +16,10 @@ use Rattle.referee.proofs.Table.reconfigure.Statement.{statement}
 use Rattle.referee.proofs.Table.reconfigure.Tie as tie
 
 is-table-requires : tie.Need-is-table-requires
-is-table-requires c κs = search needs
+is-table-requires c κs = tt
 
 refused-requires : tie.Need-refused-requires
-refused-requires c κs = search needs
+refused-requires c κs = tt
 
 returns : tie.Need-returns
 returns c =
@@ -29,7 +29,7 @@ returns c =
     (reconfigure-16 (view t) (s .caller) (s .new) (sym (c .before .before .is-table .ensures) ∙ not-true _ (c .before .if1 .taken)))
 
 refused-requires-2 : tie.Need-refused-requires-2
-refused-requires-2 c κs = search needs
+refused-requires-2 c κs = tt
 
 returns-2 : tie.Need-returns-2
 returns-2 c =
@@ -39,7 +39,7 @@ returns-2 c =
     (reconfigure-2 (view t) (s .caller) (s .new) (sym (c .before .before .before .is-table .ensures) ∙ not-false _ (c .before .before .if1 .left)) (lt-ltb 15 (s .caller) (c .before .if2 .taken)))
 
 refused-requires-3 : tie.Need-refused-requires-3
-refused-requires-3 c κs = search needs
+refused-requires-3 c κs = tt
 
 returns-3 : tie.Need-returns-3
 returns-3 c =
@@ -49,7 +49,7 @@ returns-3 c =
     (reconfigure-1 (view t) (s .caller) (s .new) (sym (c .before .before .before .before .is-table .ensures) ∙ not-false _ (c .before .before .before .if1 .left)) (le-ltb 15 (s .caller) (c .before .before .if2 .left)) (eq-eqb (s .new) 0 (c .before .if3 .taken)))
 
 last-called-requires : tie.Need-last-called-requires
-last-called-requires c κs = search needs
+last-called-requires c κs = tt
 
 enum-known-head : tie.Need-enum-known-head
 enum-known-head c = search needs
@@ -58,7 +58,7 @@ enum-told : tie.Need-enum-told
 enum-told c = search needs
 
 refused-requires-4 : tie.Need-refused-requires-4
-refused-requires-4 c κs = search needs
+refused-requires-4 c κs = tt
 
 returns-4 : tie.Need-returns-4
 returns-4 c =
@@ -76,7 +76,7 @@ array-read-if4 : tie.Need-array-read-if4
 array-read-if4 c = search needs
 
 refused-requires-5 : tie.Need-refused-requires-5
-refused-requires-5 c κs = search needs
+refused-requires-5 c κs = tt
 
 returns-5 : tie.Need-returns-5
 returns-5 c =

@@ -8,7 +8,7 @@ use Rattle.referee.proofs.open.fresh.Statement.{statement}
 use Rattle.referee.proofs.open.fresh.Tie as tie
 
 blank-requires : tie.Need-blank-requires
-blank-requires c κs = search needs
+blank-requires c κs = tt
 
 array-set-from-records : tie.Need-array-set-from-records
 array-set-from-records c = search needs

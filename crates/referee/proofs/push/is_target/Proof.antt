@@ -7,14 +7,14 @@ use Rattle.referee.proofs.push.is_target.Statement.{statement}
 use Rattle.referee.proofs.push.is_target.Tie as tie
 
 is-entry-requires : tie.Need-is-entry-requires
-is-entry-requires c κs = search needs
+is-entry-requires c κs = tt
 
 returns : tie.Need-returns
 unfolding aimed
 returns c = sym (rw (sym (c .before .is-entry .ensures) ∙ not-true _ (c .if1 .taken)))
 
 called-requires : tie.Need-called-requires
-called-requires c κs = search needs
+called-requires c κs = tt
 
 returns-2 : tie.Need-returns-2
 unfolding aimed
