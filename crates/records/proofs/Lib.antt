@@ -1,1 +1,2 @@
+-- The places in use.
 pub mod Places

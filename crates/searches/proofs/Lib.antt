@@ -1,1 +1,2 @@
+-- What the searches share.
 mod Searched
