@@ -21,15 +21,15 @@ step_kept S (Push caller voters target) = push_kept S caller voters target
 
 pub run_sound : {s : State} → Sound s → (proposals : List Proposal) → Sound (run s proposals)
 run_sound S [] = S
-run_sound S (p ∷ proposals) = run_sound (step_kept S p).sound proposals
+run_sound {s = s} S (p ∷ proposals) = run_sound {s = (step s p).state} (step_kept S p).sound proposals
 
 -- the log after a proposal begins with the log before it
 pub step_log : {s : State} → Sound s → (p : Proposal) → (more : List ℕ) × ((step s p).state.log ≡ s.log ++ more)
 step_log {s} S p = ⊎_elim (λ e. ([], e ∙ sym (append-nil s.log))) (λ grew. (grew.more, grew.longer)) (step_kept S p).log
 
 pub run_log : {s : State} → Sound s → (proposals : List Proposal) → (more : List ℕ) × ((run s proposals).log ≡ s.log ++ more)
-run_log {s} S [] = ([], sym (append-nil s.log))
-run_log {s} S (p ∷ proposals) =
+run_log {s = s} S [] = ([], sym (append-nil s.log))
+run_log {s = s} S (p ∷ proposals) =
     let (more, e) = step_log S p in
-    let (rest, f) = run_log (step_kept S p).sound proposals in
+    let (rest, f) = run_log {s = (step s p).state} (step_kept S p).sound proposals in
     (more ++ rest, f ∙ ap (λ (l : List ℕ). l ++ rest) e ∙ append_assoc s.log more rest)

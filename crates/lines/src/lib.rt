@@ -1,4 +1,6 @@
 // The lines of document 01's replay program: what a line of input asks, and the bytes of each line of output.
+#![tactic(auto)]
+
 mod read; // read.rt: words, numerals and the parts of a line
 mod write; // write.rt: bytes put into a lent buffer
 
@@ -14,7 +16,7 @@ use read::{One, Three, Two};
 use rules::{Answer, Proposal, Refusal};
 
 // What a line of input asks: to open with a set, or a proposal. Any other line is bad.
-#[derive(Drop)]
+#[derive(Clone, Copy)]
 pub enum Line {
     Open(u16),
     Propose(Proposal),

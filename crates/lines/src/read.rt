@@ -5,19 +5,19 @@ ghost use Rattle.lines.specs.Numbers.{digits_within, read};
 ghost use Rattle.lines.specs.Parts.{both, all, one, two, three};
 
 // One, two or three numbers read from the parts of a line, or nothing where the parts are not that.
-#[derive(Drop)]
+#[derive(Clone, Copy)]
 pub enum One {
     Number(u32),
     Nothing,
 }
 
-#[derive(Drop)]
+#[derive(Clone, Copy)]
 pub enum Two {
     Numbers(u32, u32),
     Nothing,
 }
 
-#[derive(Drop)]
+#[derive(Clone, Copy)]
 pub enum Three {
     Numbers(u32, u32, u32),
     Nothing,

@@ -1,4 +1,6 @@
 // The log copied to a lent buffer.
+#![tactic(auto)]
+
 ghost use Rattle.std.specs.Prelude.{◌≡◌, take};
 ghost use Rattle.logs.specs.Copy.{laid};
 

@@ -1,4 +1,6 @@
 // What a push moves: the children of its target, and the entries that the log gains.
+#![tactic(auto)]
+
 ghost use Rattle.std.specs.Prelude.{◌≡◌, length};
 ghost use Rattle.rules.specs.Tree.{path_of};
 ghost use Rattle.rules.specs.State.{entries};

@@ -1,4 +1,6 @@
 // Sets of nodes and the sixteen clocks. Each function equals its definition in rules, for every input.
+#![tactic(auto)]
+
 ghost use Rattle.std.specs.Prelude.{◌≡◌};
 ghost use Rattle.rules.specs.Nodes.{has, size, majority, one_step, subset};
 ghost use Rattle.rules.specs.Scheme.{quorum, within, next};

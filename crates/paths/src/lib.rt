@@ -1,4 +1,6 @@
 // Walks up a path, from a record by parents to record 0. At most `steps` records are met, so that no walk goes on for ever.
+#![tactic(auto)]
+
 ghost use Rattle.std.specs.Prelude.{◌≡◌};
 ghost use Rattle.rules.specs.Tree.{path_of, among, open_along, commit_along};
 

@@ -1,4 +1,6 @@
 // One record, or two: its kind, who holds it, which is above the other.
+#![tactic(auto)]
+
 ghost use Rattle.std.specs.Prelude.{◌≡◌};
 ghost use Rattle.rules.specs.Records.{blank, is_commit, is_change, is_entry, above, holds, called};
 ghost use Rattle.rules.specs.Tree.{later};

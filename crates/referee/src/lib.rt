@@ -1,5 +1,7 @@
 // The referee: a table of records by value, and the proposals as methods that hand the state back with the answer beside it.
 // Any state and any values get the answer or the numbered refusal that rules defines; a refusal hands back the very same struct.
+#![tactic(auto)]
+
 ghost use Rattle.std.specs.Prelude.{◌≡◌, ◌≤◌, ◌<◌};
 ghost use Rattle.rules.specs.State.{is_table};
 ghost use Rattle.rules.specs.Proposals.{added};
@@ -14,7 +16,7 @@ mod reading;
 use rules::{Answer, Record, Refusal};
 
 // Clocks, records and log. `count` and `length` say how many places of the last two are in use.
-#[derive(Drop)]
+#[derive(Clone, Copy)]
 pub struct Table {
     pub clocks: [u32; 16],
     pub records: [Record; 256],
@@ -24,7 +26,7 @@ pub struct Table {
 }
 
 // The state handed back and the answer beside it.
-#[derive(Drop)]
+#[derive(Clone, Copy)]
 pub struct Outcome {
     pub state: Table,
     pub answer: Answer,

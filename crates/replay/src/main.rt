@@ -1,18 +1,20 @@
 // Proposals from standard input, a line each, and their answers to standard output. At the end, the log.
+#![tactic(auto)]
+
 use libc::{STDIN_FILENO, STDOUT_FILENO};
 use lines::Line;
 use referee::{Outcome, Table};
 use rules::{Answer, Proposal, Reading};
 
 // The present table, and whether one was opened.
-#[derive(Drop)]
+#[derive(Clone, Copy)]
 struct Session {
     table: Table,
     opened: bool,
 }
 
 // The session after a line, and how many bytes its answer has.
-#[derive(Drop)]
+#[derive(Clone, Copy)]
 struct Reply {
     session: Session,
     bytes: usize,
@@ -105,7 +107,7 @@ fn answer_at(s: Session, line: &[u8], length: usize, out: &mut [u8], at: usize) 
 
 // Input taken so far: the session, the line begun and how long it is, how much of the buffer has answers, and whether all
 // is done.
-#[derive(Drop)]
+#[derive(Clone, Copy)]
 struct Taken {
     session: Session,
     line: [u8; 64],

@@ -1,7 +1,8 @@
 // The types of document 01: what a record is, what a proposal says, what is answered. What they mean is stated in specs/.
+#![tactic(auto)]
 
 // Kind and data are one thing: a command has no voters, a commit has no command.
-#[derive(Drop)]
+#[derive(Clone, Copy)]
 pub enum Kind {
     Election { voters: u16 },
     Command { number: u32 },
@@ -10,7 +11,7 @@ pub enum Kind {
 }
 
 // One record of the table. For a change, `members` is the new set.
-#[derive(Drop)]
+#[derive(Clone, Copy)]
 pub struct Record {
     pub parent: u8,
     pub caller: u8,
@@ -21,14 +22,14 @@ pub struct Record {
 }
 
 // What a search among the records finds: a record with its number, or nothing.
-#[derive(Drop)]
+#[derive(Clone, Copy)]
 pub enum Found {
     At(u8, Record),
     Nothing,
 }
 
 // The four proposals. Any value of any field gets an answer.
-#[derive(Drop)]
+#[derive(Clone, Copy)]
 pub enum Proposal {
     Pull {
         caller: u32,
@@ -51,7 +52,7 @@ pub enum Proposal {
 }
 
 // The refusals, in the order of document 01's numbers 1 to 17.
-#[derive(Drop)]
+#[derive(Clone, Copy)]
 pub enum Refusal {
     EmptySet,
     NoSuchCaller,
@@ -73,7 +74,7 @@ pub enum Refusal {
 }
 
 // The answer to opening and to a proposal.
-#[derive(Drop)]
+#[derive(Clone, Copy)]
 pub enum Answer {
     Accepted(u8),
     Short,
@@ -81,14 +82,14 @@ pub enum Answer {
 }
 
 // The answer to a reading that gives a number.
-#[derive(Drop)]
+#[derive(Clone, Copy)]
 pub enum Reading {
     Number(u32),
     Refused(Refusal),
 }
 
 // The answer to reading one record.
-#[derive(Drop)]
+#[derive(Clone, Copy)]
 pub enum Shown {
     One(Record),
     Refused(Refusal),

@@ -1,4 +1,6 @@
 // Searches among the records in use: a base, a head, the latest commit, a commit that supersedes a target.
+#![tactic(auto)]
+
 ghost use Rattle.std.specs.Prelude.{◌≡◌, take};
 ghost use Rattle.rules.specs.Tree.{number_of, base, last_called, last_commit};
 ghost use Rattle.rules.specs.Proposals.{supersedes, superseded};

@@ -1,4 +1,6 @@
 // The test for a table. Each clause is a function; none takes more steps than there are records, times the sixteen nodes.
+#![tactic(auto)]
+
 ghost use Rattle.std.specs.Prelude.{◌≡◌, reverse, length, take};
 ghost use Rattle.rules.specs.Tree.{path_of};
 ghost use Rattle.rules.specs.State.{entries, same, commit_by, is_opening, all_shaped, timely, all_timely, is_table};

@@ -1,4 +1,6 @@
 // Shows each refusal coming out of the built code: by proposals, by states built by hand, and by readings.
+#![tactic(auto)]
+
 use libc::STDOUT_FILENO;
 use referee::{Outcome, Table};
 use rules::{Answer, Kind, Reading, Record, Refusal, Shown};
