@@ -1,5 +1,5 @@
 -- A set's binary digits are its nodes. So a count of digits is a count of nodes, and `&` and `^` are "in both" and "in one alone".
-use Prim.Native.Nat.{ℕ, zero, suc, ◌+◌, ◌*◌, ◌/◌, ◌%◌, ◌^◌, ◌≤◌, ◌<◌, min}
+use Prim.Native.Nat.{ℕ, zero, suc, ◌+◌, ◌/◌, ◌%◌, ◌^◌, ◌≤◌, ◌<◌, min}
 use native.Mathlib.Nat.{div-one}
 use native.Mathlib.Numerals.{add-one, one-add}
 use native.Mathlib.Omega.{arith}
@@ -7,7 +7,7 @@ use mathlib.Core.Path.{◌≡◌, refl, sym, ap, ap₂, subst, ◌∙◌}
 use mathlib.Core.Bool.{Bool, true, false, ◌&&◌, xor}
 use borrow.Author.Tests.{lt-ltb, le-ltb}
 use lib.Arith.{lt-one}
-use lib.Dec.{ltb, eqb, lit<}
+use lib.Dec.{eqb, lit<}
 use lib.Bits.{bit_and, bit_xor, differ, and_step, xor_step, and_shr, xor_shr, and_lt, xor_lt}
 use lib.Count.{ones, ones_step}
 use lib.Pow.{shr-shr, shr_lt}

@@ -13,10 +13,10 @@ pub overflow_mul-result : goal.overflow_mul-result
 overflow_mul-result c =
     omega (
       arith,
-      ones-le 16 (bit_and c.args.voters c.args.members) (and_lt 16 c.args.voters c.args.members c.ranges.voters c.ranges.members),
+      ones-le 16 (bit_and c.args.voters c.args.members) (and_lt 16 c.args.voters c.args.members c.ranges.voters.fits c.ranges.members.fits),
     )
 
 pub returns : goal.returns
 unfolding majority
 returns c =
-    ap₂ (λ m b. ltb m (2 * b)) (size_is c.args.members c.ranges.members) (shared_is c.args.voters c.args.members c.ranges.voters c.ranges.members)
+    ap₂ (λ m b. ltb m (2 * b)) (size_is c.args.members c.ranges.members.fits) (shared_is c.args.voters c.args.members c.ranges.voters.fits c.ranges.members.fits)

@@ -8,4 +8,4 @@ use Rattle.nodes.proofs.one_step.Goals as goal
 pub returns : goal.returns
 unfolding one_step
 returns c =
-    ap (λ n. eqb n 1) (differing_is c.args.members c.args.new c.ranges.members c.ranges.new)
+    ap (λ n. eqb n 1) (differing_is c.args.members c.args.new c.ranges.members.fits c.ranges.new.fits)

@@ -3,4 +3,4 @@ use Rattle.nodes.proofs.Digits.{size_is}
 use Rattle.nodes.proofs.size.Goals as goal
 
 pub returns : goal.returns
-returns c = size_is c.args.set c.ranges.set
+returns c = size_is c.args.set c.ranges.set.fits

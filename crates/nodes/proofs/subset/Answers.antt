@@ -6,5 +6,5 @@ use Rattle.nodes.proofs.subset.Goals as goal
 
 pub returns : goal.returns
 returns c =
-    ap₂ (λ m n. eqb m n) (shared_is c.args.voters c.args.members c.ranges.voters c.ranges.members) (size_is c.args.voters c.ranges.voters)
+    ap₂ (λ m n. eqb m n) (shared_is c.args.voters c.args.members c.ranges.voters.fits c.ranges.members.fits) (size_is c.args.voters c.ranges.voters.fits)
     ∙ sym (subset_is c.args.voters c.args.members)
