@@ -30,10 +30,11 @@ use Rattle.rules.specs.Run.{step, run}
 use Rattle.rules.proofs.Choice.{chosen}
 use Rattle.rules.proofs.State.{table_says}
 use Rattle.agreement.proofs.Theorem.{election_under, election_once, commits_comparable, one_below}
-use Rattle.agreement.proofs.Reading.{sort_of, commit_sort, below_above}
+use Rattle.agreement.proofs.Reading.{sort_of}
+use Rattle.agreement.proofs.Readings.{commit_sort, below_above}
 use Rattle.agreement.proofs.Upward.{on_path_lem}
-use Rattle.agreement.proofs.Sound.{Sound, fresh_sound, sound_table}
-use Rattle.agreement.proofs.Run.{step_kept, run_sound, step_log, run_log}
+use Rattle.agreement.proofs.Sound.{sound_table}
+use Rattle.agreement.proofs.Run.{step_kept, sound_from, step_log, run_log}
 
 -- whatever opening hands back, refused or not, is a fresh table of a set that is not empty
 pub opens_fresh : (set : ℕ) → (g : ℕ) × (empty g ≡ false) × ((opened set).state ≡ fresh g)
@@ -46,16 +47,13 @@ module _ (g : ℕ) (opens : empty g ≡ false) (proposals : List Proposal) where
   abbrev now : State
   now = run (fresh g) proposals
 
-  sound : Sound now
-  sound = run_sound (fresh_sound g opens) proposals
-
   -- the state is a table
   pub always_a_table : is_table now ≡ true
-  always_a_table = sound_table sound
+  always_a_table = sound_table (sound_from g opens proposals)
 
   -- "all commits lie on one branch": that of the latest
   pub one_branch_lem : one_branch now.records ≡ true
-  one_branch_lem = (table_says now always_a_table).branch
+  one_branch_lem = (table_says now (sound_table (sound_from g opens proposals))).branch
 
   -- the same without the latest: of any two commits one is on the other's path
   pub one_of_two : (c d : ℕ) → c < length now.records → d < length now.records
@@ -63,20 +61,20 @@ module _ (g : ℕ) (opens : empty g ≡ false) (proposals : List Proposal) where
       → (on_path now.records c d ≡ true) ⊎ (on_path now.records d c ≡ true)
   unfolding on_path
   one_of_two c d l m e f =
-      ⊎_map (λ p. on_path_lem now.records sound.facts p m) (λ p. on_path_lem now.records sound.facts p l)
-      (commits_comparable sound.facts c d l m (commit_sort (at now.records c).kind e) (commit_sort (at now.records d).kind f))
+      ⊎_map (λ p. on_path_lem now.records (sound_from g opens proposals).facts p m) (λ p. on_path_lem now.records (sound_from g opens proposals).facts p l)
+      (commits_comparable (sound_from g opens proposals).facts c d l m (commit_sort (at now.records c).kind e) (commit_sort (at now.records d).kind f))
 
   -- "the kept log equals the one read afresh from the records"
   pub log_afresh : now.log ≡ log_of now.records
-  log_afresh = sound.logged
+  log_afresh = (sound_from g opens proposals).logged
 
   -- "never changes its beginning": after one more proposal the log is the old one and maybe more
   pub log_kept : (p : Proposal) → (more : List ℕ) × ((step now p).state.log ≡ now.log ++ more)
-  log_kept = step_log sound
+  log_kept = step_log (sound_from g opens proposals)
 
   -- and so after any number more
   pub log_kept_on : (later : List Proposal) → (more : List ℕ) × ((run now later).log ≡ now.log ++ more)
-  log_kept_on = run_log sound
+  log_kept_on = run_log (sound_from g opens proposals)
 
   -- "only a push with a majority makes it longer": a proposal after which the log is another is a push, accepted, with a majority of the
   -- target's members
@@ -84,14 +82,14 @@ module _ (g : ℕ) (opens : empty g ≡ false) (proposals : List Proposal) where
       → (caller : ℕ) × (voters : ℕ) × (target : ℕ) × (p ≡ Push caller voters target)
       × ((step now p).answer ≡ Accepted (length now.records)) × (quorum voters (at now.records target).members ≡ true)
   only_a_push_grows p other =
-      ⊎_elim (λ e. absurd (other e)) (λ q. (q.caller, q.voters, q.target, q.is_push, q.accepted, q.majority)) (step_kept sound p).log
+      ⊎_elim (λ e. absurd (other e)) (λ q. (q.caller, q.voters, q.target, q.is_push, q.accepted, q.majority)) (step_kept (sound_from g opens proposals) p).log
 
   -- "refusals 16 and 17 never come"
   pub never_16 : (p : Proposal) → ¬ ((step now p).answer ≡ Refused NoTable)
-  never_16 p = (step_kept sound p).not_16
+  never_16 p = (step_kept (sound_from g opens proposals) p).not_16
 
   pub never_17 : (p : Proposal) → ¬ ((step now p).answer ≡ Refused OffBranch)
-  never_17 p = (step_kept sound p).not_17
+  never_17 p = (step_kept (sound_from g opens proposals) p).not_17
 
   -- Beyond demand 3, what it comes from.
 
@@ -99,7 +97,7 @@ module _ (g : ℕ) (opens : empty g ≡ false) (proposals : List Proposal) where
   pub one_election_a_time : (e e' voters voters' : ℕ) → e < length now.records → e' < length now.records
       → (at now.records e).kind ≡ Election voters → (at now.records e').kind ≡ Election voters'
       → (at now.records e).time ≡ (at now.records e').time → e ≡ e'
-  one_election_a_time e e' voters voters' l l' k k' t = election_once sound.facts e e' l l' (ap sort_of k) (ap sort_of k') t
+  one_election_a_time e e' voters voters' l l' k k' t = election_once (sound_from g opens proposals).facts e e' l l' (ap sort_of k) (ap sort_of k') t
 
   -- every election stands under every commit of a lower time
   pub election_under_commits : (e c voters : ℕ) → e < length now.records → c < length now.records
@@ -107,10 +105,10 @@ module _ (g : ℕ) (opens : empty g ≡ false) (proposals : List Proposal) where
       → (at now.records c).time < (at now.records e).time → on_path now.records c e ≡ true
   unfolding on_path
   election_under_commits e c voters l m k f t =
-      on_path_lem now.records sound.facts (election_under sound.facts e c l m (ap sort_of k) (commit_sort (at now.records c).kind f) t) l
+      on_path_lem now.records (sound_from g opens proposals).facts (election_under (sound_from g opens proposals).facts e c l m (ap sort_of k) (commit_sort (at now.records c).kind f) t) l
 
   -- of two different records one is above the other
   pub no_two_equal : (i j : ℕ) → i < length now.records → j < length now.records → ¬ (i ≡ j)
       → (above (at now.records i) (at now.records j) ≡ true) ⊎ (above (at now.records j) (at now.records i) ≡ true)
   no_two_equal i j l m d =
-      ⊎_swap (⊎_map (below_above now.records i j) (below_above now.records j i) (one_below sound.facts i j l m d))
+      ⊎_swap (⊎_map (below_above now.records i j) (below_above now.records j i) (one_below (sound_from g opens proposals).facts i j l m d))

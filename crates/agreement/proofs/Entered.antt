@@ -27,7 +27,8 @@ use Rattle.agreement.specs.Steps.{NewGrowth, Handed}
 use Rattle.agreement.proofs.Cases.{above_zero}
 use Rattle.agreement.proofs.Grow.{invoked, reconfigured}
 use Rattle.agreement.proofs.Single.{single}
-use Rattle.agreement.proofs.Reading.{sort_of, tree_of, held, not_below}
+use Rattle.agreement.proofs.Reading.{sort_of, tree_of, held}
+use Rattle.agreement.proofs.Readings.{not_below}
 use Rattle.agreement.proofs.Upward.{all_closed, one_leads}
 use Rattle.agreement.proofs.Sound.{FactsOf, Sound, root_caller}
 use Rattle.agreement.proofs.OneMore.{handed}

@@ -25,7 +25,7 @@ use Rattle.rules.proofs.Refusals.{Given, names, decided, judged}
 use Rattle.rules.proofs.Votes.{moved_length, clocks_rise}
 use Rattle.agreement.specs.Steps.{held}
 use Rattle.agreement.proofs.Clocks as Clocks
-use Rattle.agreement.proofs.Reading.{voters_hold}
+use Rattle.agreement.proofs.Readings.{voters_hold}
 use Rattle.agreement.proofs.Sound.{Sound, sound_table}
 
 -- the log grew, by a push that was accepted, with a majority of its target's members

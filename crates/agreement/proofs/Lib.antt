@@ -17,6 +17,7 @@ pub mod Opening
 -- Document 01's records read as such a tree, what its proposals keep of them, and demand 3.
 pub mod Single
 pub mod Reading
+pub mod Readings
 pub mod Upward
 pub mod Sound
 pub mod OneMore
@@ -25,6 +26,7 @@ pub mod Kept
 pub mod Pulled
 pub mod Entered
 pub mod Adopted
+pub mod Inserts
 pub mod Pushed
 pub mod Run
 pub mod Demand

@@ -17,7 +17,8 @@ use Rattle.rules.proofs.Records.{holds_caller, holds_voters}
 use Rattle.agreement.specs.Steps.{Keeps, Handed, Holder, held, called, reached}
 use Rattle.agreement.proofs.Cases.{below_suc}
 use Rattle.agreement.proofs.Single.{single}
-use Rattle.agreement.proofs.Reading.{sort_of, voters_of, tree_of, commit_kind_lem, commit_sort, voters_hold}
+use Rattle.agreement.proofs.Reading.{sort_of, voters_of, tree_of}
+use Rattle.agreement.proofs.Readings.{commit_kind_lem, commit_sort, voters_hold}
 use Rattle.agreement.proofs.Reading as Reading
 use Rattle.agreement.proofs.Sound.{FactsOf, Sound}
 

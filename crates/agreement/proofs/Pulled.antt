@@ -26,7 +26,8 @@ use Rattle.agreement.specs.Passed.{Elected}
 use Rattle.agreement.specs.Steps.{NewElection}
 use Rattle.agreement.proofs.Pull.{pulled}
 use Rattle.agreement.proofs.Single.{single}
-use Rattle.agreement.proofs.Reading.{sort_of, voters_of, tree_of, held, not_below}
+use Rattle.agreement.proofs.Reading.{sort_of, voters_of, tree_of, held}
+use Rattle.agreement.proofs.Readings.{not_below}
 use Rattle.agreement.proofs.Sound.{FactsOf, Sound}
 use Rattle.agreement.proofs.OneMore.{handed}
 use Rattle.agreement.proofs.Added.{with_one, added_more, added_leaf, added_sound}

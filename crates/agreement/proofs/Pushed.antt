@@ -30,11 +30,13 @@ use Rattle.agreement.specs.Passed.{Pushed}
 use Rattle.agreement.proofs.Push.{pushed}
 use Rattle.agreement.proofs.Never17.{never17}
 use Rattle.agreement.proofs.Single.{single}
-use Rattle.agreement.proofs.Reading.{tree_of, commit_sort, sort_commit, entry_sort}
+use Rattle.agreement.proofs.Reading.{tree_of}
+use Rattle.agreement.proofs.Readings.{commit_sort, sort_commit, entry_sort}
 use Rattle.agreement.proofs.Upward.{on_path_lem}
 use Rattle.agreement.proofs.Sound.{FactsOf, Sound, latest_commit_lem}
 use Rattle.agreement.proofs.OneMore.{handed, sound_more}
-use Rattle.agreement.proofs.Adopted.{with_commit, inserted_more, inserted_commit, log_inserted}
+use Rattle.agreement.proofs.Adopted.{with_commit}
+use Rattle.agreement.proofs.Inserts.{inserted_more, inserted_commit, log_inserted}
 use Rattle.agreement.proofs.Kept.{Kept, grew_kept, short_kept, judged_kept}
 
 -- what refusal 7 says where it is not given

@@ -2,12 +2,14 @@
 use Prim.Native.Nat.{ℕ}
 use mathlib.Core.Path.{◌≡◌, sym, ap, ◌∙◌}
 use mathlib.Core.Logic.{⊎_elim}
+use mathlib.Core.Bool.{false}
 use mathlib.Core.List.{List, [], ◌∷◌, ◌++◌, append-nil, append_assoc}
 use Rattle.rules.specs.declared.Proposal.{Proposal}
 use Rattle.rules.specs.declared.Proposal.TheVariants.{Pull, Invoke, Reconfigure, Push}
-use Rattle.rules.specs.State.{State}
+use Rattle.rules.specs.Nodes.{empty}
+use Rattle.rules.specs.State.{State, fresh}
 use Rattle.rules.specs.Run.{step, run}
-use Rattle.agreement.proofs.Sound.{Sound}
+use Rattle.agreement.proofs.Sound.{Sound, fresh_sound}
 use Rattle.agreement.proofs.Kept.{Kept}
 use Rattle.agreement.proofs.Pulled.{pull_kept}
 use Rattle.agreement.proofs.Entered.{invoke_kept, reconfigure_kept}
@@ -22,6 +24,10 @@ step_kept S (Push caller voters target) = push_kept S caller voters target
 pub run_sound : {s : State} → Sound s → (proposals : List Proposal) → Sound (run s proposals)
 run_sound S [] = S
 run_sound {s = s} S (p ∷ proposals) = run_sound {s = (step s p).state} (step_kept S p).sound proposals
+
+-- from a fresh table of a set that is not empty
+pub sound_from : (g : ℕ) → empty g ≡ false → (proposals : List Proposal) → Sound (run (fresh g) proposals)
+sound_from g opens proposals = run_sound (fresh_sound g opens) proposals
 
 -- the log after a proposal begins with the log before it
 pub step_log : {s : State} → Sound s → (p : Proposal) → (more : List ℕ) × ((step s p).state.log ≡ s.log ++ more)

@@ -25,7 +25,8 @@ use Rattle.agreement.proofs.Cases.{zero_or_more}
 use Rattle.agreement.proofs.Theorem.{latest_over}
 use Rattle.agreement.proofs.Opening as Opening
 use Rattle.agreement.proofs.Single.{single}
-use Rattle.agreement.proofs.Reading.{tree_of, held, commit_sort, sort_commit, not_below}
+use Rattle.agreement.proofs.Reading.{tree_of, held}
+use Rattle.agreement.proofs.Readings.{commit_sort, sort_commit, not_below}
 use Rattle.agreement.proofs.Upward.{rising, on_path_lem}
 
 -- the facts of the first n of some records, at these clocks

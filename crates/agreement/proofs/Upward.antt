@@ -22,7 +22,8 @@ use Rattle.agreement.proofs.Cases.{zero_or_more, election_or_commit, command_or_
 use Rattle.agreement.proofs.Paths.{On-same}
 use Rattle.agreement.proofs.Rising.{uncommitted, parent_below}
 use Rattle.agreement.proofs.Single.{single}
-use Rattle.agreement.proofs.Reading.{sort_of, tree_of, commit_sort, below_above}
+use Rattle.agreement.proofs.Reading.{sort_of, tree_of}
+use Rattle.agreement.proofs.Readings.{commit_sort, below_above}
 
 -- a change is open
 change_open : (k : Kind) (further : Bool) → sort_of k ≡ change → open_at k further ≡ true
