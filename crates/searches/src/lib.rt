@@ -19,6 +19,7 @@ pub fn number_of(found: Found) -> u8
 }
 
 // The latest record held by any voter.
+#[tactic(auto, using(records::proofs::Places::used_small, crate::proofs::Searched::found_more, crate::proofs::Searched::found_same, crate::proofs::Searched::found_all, rules::proofs::Held::held_by_one, rules::proofs::Held::held_by_none), unfolding(rules::specs::Tree::base))]
 pub fn base(records: [Record; 256], count: usize, voters: u16) -> Found
     ensures { result ≡ base (take count records) voters }
 {
@@ -42,6 +43,7 @@ pub fn base(records: [Record; 256], count: usize, voters: u16) -> Found
 }
 
 // The latest record that the node called.
+#[tactic(auto, using(records::proofs::Places::used_small, crate::proofs::Searched::found_more, crate::proofs::Searched::found_same, crate::proofs::Searched::found_all), unfolding(rules::specs::Tree::last_called))]
 pub fn last_called(records: [Record; 256], count: usize, node: usize) -> Found
     ensures { result ≡ last_called (take count records) node }
 {
@@ -59,6 +61,7 @@ pub fn last_called(records: [Record; 256], count: usize, node: usize) -> Found
 }
 
 // The latest commit.
+#[tactic(auto, using(records::proofs::Places::used_small, crate::proofs::Searched::found_more, crate::proofs::Searched::found_same, crate::proofs::Searched::found_all), unfolding(rules::specs::Tree::last_commit))]
 pub fn last_commit(records: [Record; 256], count: usize) -> Found
     ensures { result ≡ last_commit (take count records) }
 {
@@ -76,6 +79,7 @@ pub fn last_commit(records: [Record; 256], count: usize) -> Found
 }
 
 // Is the record a commit of this caller and the target's time, with a version at or past the target's?
+#[tactic(auto, unfolding(rules::specs::Proposals::supersedes))]
 fn supersedes(r: Record, caller: usize, t: Record) -> bool
     ensures { result ≡ supersedes r caller t }
 {
@@ -92,6 +96,7 @@ fn supersedes(r: Record, caller: usize, t: Record) -> bool
 }
 
 // Has a commit of this caller and the target's time a version at or past the target's?
+#[tactic(auto, using(records::proofs::Places::used_small, records::proofs::Places::used_at, records::proofs::Places::used_length, rules::proofs::First::some_of, rules::proofs::First::some_more), unfolding(rules::specs::Proposals::superseded))]
 pub fn superseded(records: [Record; 256], count: usize, caller: usize, t: Record) -> bool
     ensures { result ≡ superseded (take count records) caller t }
 {
