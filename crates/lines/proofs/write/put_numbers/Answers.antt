@@ -1,0 +1,54 @@
+-- The numbers that are left, laid over what is written so far, make them all.
+use Prim.Native.Nat.{◌-◌}
+use native.Mathlib.Omega.{arith}
+use mathlib.Core.Path.{refl, sym, ◌∙◌}
+use borrow.Author.Tests.{leb-true, leb-false, not-true, not-false}
+use lib.ListN.{length}
+use Rattle.lines.specs.Print.{spaced_all}
+use Rattle.lines.proofs.Laid.{put_none}
+use Rattle.lines.proofs.Printed.{number_put, numbers_put}
+use Rattle.lines.proofs.write.put_numbers.Goals as goal
+
+pub returns-then-at-out : goal.returns-then-at-out
+returns-then-at-out c = let s = c.args in sym (put_none (spaced_all s.numbers.now) s.at s.out.now (omega arith))
+
+pub returns-then-not-fits : goal.returns-then-not-fits
+returns-then-not-fits c =
+    let s = c.args in
+    let fits = c.fits2 in
+    let said = sym fits.ensures ∙ not-true fits.result c.if-not-fits.true in
+    let short = leb-false (length (spaced_all s.numbers.now)) (length s.out.now - s.at) said in
+    sym (put_none (spaced_all s.numbers.now) s.at s.out.now (omega arith))
+
+pub loop-i-init : goal.loop-i-init
+loop-i-init c =
+    let s = c.args in
+    let fits = c.fits2 in
+    let said = sym fits.ensures ∙ not-false fits.result c.if-not-fits.false in
+    let room = leb-true (length (spaced_all s.numbers.now)) (length s.out.now - s.at) said in
+    (omega arith, refl, omega arith, refl, refl)
+
+pub overflow_cast-numbers : goal.overflow_cast-numbers
+overflow_cast-numbers c = omega (arith, c.shared_slice_known-in-loop-i-1.given c.loop-i.i)
+
+pub loop-i-smaller : goal.loop-i-smaller
+loop-i-smaller c = omega arith
+
+pub loop-i-preserved : goal.loop-i-preserved
+loop-i-preserved c =
+    let at = c in
+    let s = at.args in
+    let now = at.loop in
+    let p = c.put_number-place in
+    let more = c.loop-i-test.true in
+    let put = number_put s.numbers.now now.i now.place now.out p.new.1.1.0 p.result more (omega arith) p.ensures in
+    (omega arith, put.0 ∙ now.invariant.1, now.invariant.2, put.1 ∙ now.invariant.3, put.2 ∙ now.invariant.4)
+
+pub shape_of-out : goal.shape_of-out
+shape_of-out c = c.loop-i.invariant.1
+
+pub returns : goal.returns
+returns c =
+    let s = c.args in
+    let at = c.loop-i in
+    numbers_put s.numbers.now at.i s.at s.out.now at.out at.place (omega arith) at.invariant.2 at.invariant.3 at.invariant.4
