@@ -12,7 +12,7 @@ returns-then-end-rest c = let s = c.args in sym (two_short s.rest.now s.a s.b (o
 pub slice_bounds-numeral-end : goal.slice_bounds-numeral-end
 slice_bounds-numeral-end c =
     let at = c in
-    sym (length-take-le at.front.result at.args.rest.now (omega arith))
+    sym (length-take-le at.front-end.result at.args.rest.now (omega arith))
 
 pub returns : goal.returns
 returns c =
@@ -20,4 +20,4 @@ returns c =
     let s = at.args in
     c.both.ensures
     ∙ ap₂ both c.numeral.ensures c.only.ensures
-    ∙ sym (two_split s.rest.now s.a s.b at.front.result at.front.ensures (omega arith))
+    ∙ sym (two_split s.rest.now s.a s.b at.front-end.result at.front-end.ensures (omega arith))

@@ -17,26 +17,26 @@ pub bounds-out-end : goal.bounds-out-end
 bounds-out-end c =
     let s = c.args in
     let p = c.put_number-end in
-    let head = head_put s.letter s.n s.out.now p.new.1.1.0 p.result (omega arith) p.ensures in
+    let head = head_put s.letter s.n s.out.now p.new.out p.result (omega arith) p.ensures in
     omega (arith, head.1, head.2)
 
 pub overflow_add-result : goal.overflow_add-result
 overflow_add-result c =
     let s = c.args in
     let p = c.put_number-end in
-    let head = head_put s.letter s.n s.out.now p.new.1.1.0 p.result (omega arith) p.ensures in
+    let head = head_put s.letter s.n s.out.now p.new.out p.result (omega arith) p.ensures in
     omega (arith, head.1)
 
 pub shape_of-out : goal.shape_of-out
 shape_of-out c =
     let s = c.args in
     let p = c.put_number-end in
-    let head = head_put s.letter s.n s.out.now p.new.1.1.0 p.result (omega arith) p.ensures in
+    let head = head_put s.letter s.n s.out.now p.new.out p.result (omega arith) p.ensures in
     simp length-set head.2
 
 pub returns : goal.returns
 returns c =
     let s = c.args in
     let p = c.put_number-end in
-    let head = head_put s.letter s.n s.out.now p.new.1.1.0 p.result (omega arith) p.ensures in
-    line_put s.letter (spaced s.n) s.out.now p.new.1.1.0 p.result (omega arith) head.0 head.1
+    let head = head_put s.letter s.n s.out.now p.new.out p.result (omega arith) p.ensures in
+    line_put s.letter (spaced s.n) s.out.now p.new.out p.result (omega arith) head.0 head.1

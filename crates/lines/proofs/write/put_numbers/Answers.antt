@@ -2,7 +2,7 @@
 use Prim.Native.Nat.{◌-◌}
 use native.Mathlib.Omega.{arith}
 use mathlib.Core.Path.{refl, sym, ◌∙◌}
-use borrow.Author.Tests.{leb-true, leb-false, not-true, not-false}
+use borrow.Author.Tests.{leb-true, leb-false}
 use lib.ListN.{length}
 use Rattle.lines.specs.Print.{spaced_all}
 use Rattle.lines.proofs.Laid.{put_none}
@@ -15,17 +15,13 @@ returns-then-at-out c = let s = c.args in sym (put_none (spaced_all s.numbers.no
 pub returns-then-not-fits : goal.returns-then-not-fits
 returns-then-not-fits c =
     let s = c.args in
-    let fits = c.fits2 in
-    let said = sym fits.ensures ∙ not-true fits.result c.if-not-fits.true in
-    let short = leb-false (length (spaced_all s.numbers.now)) (length s.out.now - s.at) said in
+    let short = leb-false (length (spaced_all s.numbers.now)) (length s.out.now - s.at) (sym c.fits.ensures ∙ c.if-not-fits.true) in
     sym (put_none (spaced_all s.numbers.now) s.at s.out.now (omega arith))
 
 pub loop-i-init : goal.loop-i-init
 loop-i-init c =
     let s = c.args in
-    let fits = c.fits2 in
-    let said = sym fits.ensures ∙ not-false fits.result c.if-not-fits.false in
-    let room = leb-true (length (spaced_all s.numbers.now)) (length s.out.now - s.at) said in
+    let room = leb-true (length (spaced_all s.numbers.now)) (length s.out.now - s.at) (sym c.fits.ensures ∙ c.if-not-fits.false) in
     (omega arith, refl, omega arith, refl, refl)
 
 pub overflow_cast-numbers : goal.overflow_cast-numbers
@@ -38,10 +34,10 @@ pub loop-i-preserved : goal.loop-i-preserved
 loop-i-preserved c =
     let at = c in
     let s = at.args in
-    let now = at.loop in
+    let now = at.loop-i in
     let p = c.put_number-place in
     let more = c.loop-i-test.true in
-    let put = number_put s.numbers.now now.i now.place now.out p.new.1.1.0 p.result more (omega arith) p.ensures in
+    let put = number_put s.numbers.now now.i now.place now.out p.new.out p.result more (omega arith) p.ensures in
     (omega arith, put.0 ∙ now.invariant.1, now.invariant.2, put.1 ∙ now.invariant.3, put.2 ∙ now.invariant.4)
 
 pub shape_of-out : goal.shape_of-out
