@@ -6,7 +6,7 @@ use lib.Dec.{leb}
 use native.Mathlib.Omega.{arith}
 use mathlib.Core.Path.{◌≡◌, sym, ◌∙◌}
 use borrow.Author.Tests.{leb-true, leb-false}
-use lib.ListN.{length, length-set}
+use lib.ListN.{length}
 use Rattle.lines.specs.Numbers.{digits}
 use Rattle.lines.specs.Print.{spaced_all}
 use Rattle.lines.proofs.Digits.{digits_count}
@@ -49,14 +49,6 @@ overflow_add-result c =
     let q = c.put_numbers-end in
     let put = log_put s.log.now s.out.now p.new.out q.new.out p.result q.result (room s.log.now s.out.now (omega arith) (rw c.width-count.ensures at (sym c.fits.ensures ∙ c.if-not-fits.false))) p.ensures q.ensures in
     omega (arith, put.0, c.well_formed)
-
-pub shape_of-out : goal.shape_of-out
-shape_of-out c =
-    let s = c.args in
-    let p = c.put_number-next in
-    let q = c.put_numbers-end in
-    let put = log_put s.log.now s.out.now p.new.out q.new.out p.result q.result (room s.log.now s.out.now (omega arith) (rw c.width-count.ensures at (sym c.fits.ensures ∙ c.if-not-fits.false))) p.ensures q.ensures in
-    simp length-set put.1
 
 pub returns : goal.returns
 returns c =

@@ -1,13 +1,9 @@
 -- The loop has read the digits passed, and the number so far is at most the limit.
-use Prim.Native.Nat.{◌-◌}
 use native.Mathlib.Omega.{arith}
-use mathlib.Core.Path.{refl, sym, ◌∙◌}
+use mathlib.Core.Path.{sym, ◌∙◌}
 use Rattle.lines.specs.Numbers.{digits_within, value}
-use Rattle.lines.proofs.Numbers.{read_over, read_more, read_low, read_high, read_end}
+use Rattle.lines.proofs.Numbers.{read_over, read_low, read_high, read_end}
 use Rattle.lines.proofs.read.digits.Goals as goal
-
-pub loop-i-init : goal.loop-i-init
-loop-i-init c = (omega arith, omega arith, refl)
 
 pub returns-then-byte-lt48 : goal.returns-then-byte-lt48
 unfolding digits_within value
@@ -29,12 +25,6 @@ returns-then-value-limit c =
     let at = c in
     let s = at.args in
     sym (read_over s.most at.loop-i.value s.word.now at.loop-i.i (omega arith) (omega arith) (omega arith) c.if-value-limit.true) ∙ at.loop-i.invariant.2
-
-pub loop-i-preserved : goal.loop-i-preserved
-loop-i-preserved c =
-    let at = c in
-    let s = at.args in
-    (omega arith, omega arith, sym (read_more s.most at.loop-i.value s.word.now at.loop-i.i (omega arith) (omega arith) (omega arith)) ∙ at.loop-i.invariant.2)
 
 pub returns : goal.returns
 unfolding digits_within value

@@ -1,18 +1,12 @@
 -- The bytes before the first space are the first part, those after it the others.
 use native.Mathlib.Omega.{arith}
 use mathlib.Core.Path.{sym, ap₂, ◌∙◌}
-use lib.Seq.{length-take-le}
 use Rattle.lines.specs.Parts.{all}
 use Rattle.lines.proofs.Parts.{three_short, three_split}
 use Rattle.lines.proofs.read.triple.Goals as goal
 
 pub returns-then-end-rest : goal.returns-then-end-rest
 returns-then-end-rest c = let s = c.args in sym (three_short s.rest.now s.a s.b s.d (omega arith))
-
-pub slice_bounds-numeral-end : goal.slice_bounds-numeral-end
-slice_bounds-numeral-end c =
-    let at = c in
-    sym (length-take-le at.front-end.result at.args.rest.now (omega arith))
 
 pub returns : goal.returns
 returns c =

@@ -2,7 +2,7 @@
 use Prim.Native.Nat.{ℕ}
 use native.Mathlib.Omega.{arith}
 use mathlib.Core.List.{List}
-use mathlib.Core.Path.{refl, sym, ap, ap₂, ◌∙◌}
+use mathlib.Core.Path.{sym, ap, ap₂, ◌∙◌}
 use lib.ListN.{set, length-set}
 use Rattle.lines.specs.Print.{spaced, outcome}
 use Rattle.lines.proofs.Digits.{digits_longer}
@@ -17,17 +17,8 @@ returns-then-count-out c =
     let s = c.args in
     sym (put_none (spaced s.n) s.at s.out.now (omega arith))
 
-pub loop-rest-init : goal.loop-rest-init
-loop-rest-init c = (omega arith, omega arith, refl, refl)
-
-pub bounds-out-place : goal.bounds-out-place
-bounds-out-place c = omega arith
-
 pub overflow_sub-place : goal.overflow_sub-place
 overflow_sub-place c = omega (arith, digits_longer c.loop-rest.rest (omega arith))
-
-pub loop-rest-smaller : goal.loop-rest-smaller
-loop-rest-smaller c = omega arith
 
 pub loop-rest-preserved : goal.loop-rest-preserved
 loop-rest-preserved c =
@@ -38,15 +29,6 @@ loop-rest-preserved c =
       simp length-set at.invariant.2,
       sym (digit_laid at.rest s.at at.place at.out at.invariant.0 c.loop-rest-test.true) ∙ at.invariant.3,
     )
-
-pub bounds-out-place-2 : goal.bounds-out-place-2
-bounds-out-place-2 c = omega arith
-
-pub bounds-out-at : goal.bounds-out-at
-bounds-out-at c = simp length-set (omega arith)
-
-pub shape_of-out : goal.shape_of-out
-shape_of-out c = simp length-set c.loop-rest.invariant.2
 
 pub returns : goal.returns
 returns c =

@@ -1,7 +1,6 @@
 -- The letter, the number and the newline follow one another.
 use native.Mathlib.Omega.{arith}
 use mathlib.Core.Path.{sym}
-use lib.ListN.{length-set}
 use Rattle.lines.specs.Print.{spaced}
 use Rattle.lines.proofs.Digits.{digits_count}
 use Rattle.lines.proofs.Printed.{line_put, line_none, head_put}
@@ -26,13 +25,6 @@ overflow_add-result c =
     let p = c.put_number-end in
     let head = head_put s.letter s.n s.out.now p.new.out p.result (omega arith) p.ensures in
     omega (arith, head.1)
-
-pub shape_of-out : goal.shape_of-out
-shape_of-out c =
-    let s = c.args in
-    let p = c.put_number-end in
-    let head = head_put s.letter s.n s.out.now p.new.out p.result (omega arith) p.ensures in
-    simp length-set head.2
 
 pub returns : goal.returns
 returns c =

@@ -1,8 +1,8 @@
 -- The numbers that are left, laid over what is written so far, make them all.
 use Prim.Native.Nat.{◌-◌}
 use native.Mathlib.Omega.{arith}
-use mathlib.Core.Path.{refl, sym, ◌∙◌}
-use borrow.Author.Tests.{leb-true, leb-false}
+use mathlib.Core.Path.{sym, ◌∙◌}
+use borrow.Author.Tests.{leb-false}
 use lib.ListN.{length}
 use Rattle.lines.specs.Print.{spaced_all}
 use Rattle.lines.proofs.Laid.{put_none}
@@ -18,18 +18,6 @@ returns-then-not-fits c =
     let short = leb-false (length (spaced_all s.numbers.now)) (length s.out.now - s.at) (sym c.fits.ensures ∙ c.if-not-fits.true) in
     sym (put_none (spaced_all s.numbers.now) s.at s.out.now (omega arith))
 
-pub loop-i-init : goal.loop-i-init
-loop-i-init c =
-    let s = c.args in
-    let room = leb-true (length (spaced_all s.numbers.now)) (length s.out.now - s.at) (sym c.fits.ensures ∙ c.if-not-fits.false) in
-    (omega arith, refl, omega arith, refl, refl)
-
-pub overflow_cast-numbers : goal.overflow_cast-numbers
-overflow_cast-numbers c = omega (arith, c.shared_slice_known-in-loop-i-1.given c.loop-i.i)
-
-pub loop-i-smaller : goal.loop-i-smaller
-loop-i-smaller c = omega arith
-
 pub loop-i-preserved : goal.loop-i-preserved
 loop-i-preserved c =
     let at = c in
@@ -39,9 +27,6 @@ loop-i-preserved c =
     let more = c.loop-i-test.true in
     let put = number_put s.numbers.now now.i now.place now.out p.new.out p.result more (omega arith) p.ensures in
     (omega arith, put.0 ∙ now.invariant.1, now.invariant.2, put.1 ∙ now.invariant.3, put.2 ∙ now.invariant.4)
-
-pub shape_of-out : goal.shape_of-out
-shape_of-out c = c.loop-i.invariant.1
 
 pub returns : goal.returns
 returns c =

@@ -5,15 +5,6 @@ use lib.ListN.{length}
 use Rattle.lines.proofs.Digits.{digits_one, digits_longer}
 use Rattle.lines.proofs.write.width.Goals as goal
 
-pub loop-rest-init : goal.loop-rest-init
-loop-rest-init c = (omega arith, omega arith)
-
-pub overflow_add-count : goal.overflow_add-count
-overflow_add-count c = omega arith
-
-pub loop-rest-smaller : goal.loop-rest-smaller
-loop-rest-smaller c = omega arith
-
 pub loop-rest-preserved : goal.loop-rest-preserved
 loop-rest-preserved c = (omega arith, omega (arith, digits_longer c.loop-rest.rest (omega arith)))
 
