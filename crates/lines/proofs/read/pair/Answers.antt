@@ -10,8 +10,7 @@ returns-then-end-rest c = let s = c.args in sym (two_short s.rest.now s.a s.b (o
 
 pub returns : goal.returns
 returns c =
-    let at = c in
-    let s = at.args in
+    let s = c.args in
     c.both.ensures
     ∙ ap₂ both c.numeral.ensures c.only.ensures
-    ∙ sym (two_split s.rest.now s.a s.b at.front-end.result at.front-end.ensures (omega arith))
+    ∙ sym (two_split s.rest.now s.a s.b c.front-end.result c.front-end.ensures (omega arith))

@@ -10,8 +10,7 @@ returns-then-end-rest c = let s = c.args in sym (three_short s.rest.now s.a s.b 
 
 pub returns : goal.returns
 returns c =
-    let at = c in
-    let s = at.args in
+    let s = c.args in
     c.all.ensures
     ∙ ap₂ all c.numeral.ensures c.pair.ensures
-    ∙ sym (three_split s.rest.now s.a s.b s.d at.front-end.result at.front-end.ensures (omega arith))
+    ∙ sym (three_split s.rest.now s.a s.b s.d c.front-end.result c.front-end.ensures (omega arith))
