@@ -85,6 +85,7 @@ fn push(rest: &[u8]) -> Line
 }
 
 // A letter with parts after it.
+#[tactic(auto, unfolding(crate::specs::Parse::lettered))]
 fn lettered(letter: u8, rest: &[u8]) -> Line
     ensures { result ≡ lettered letter (words rest.now) }
 {

@@ -62,6 +62,7 @@ fn digits(word: &[u8], most: u32) -> One
 }
 
 // The number that a word is, where it is a numeral and at most the limit.
+#[tactic(auto, using(crate::proofs::Numbers::read_none, crate::proofs::Numbers::read_one, crate::proofs::Numbers::read_led, crate::proofs::Numbers::read_many))]
 fn numeral(word: &[u8], most: u32) -> One
     ensures { result ≡ read most word.now }
 {
