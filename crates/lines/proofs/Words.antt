@@ -1,16 +1,31 @@
 -- The words of a line, from one space to the next.
-use Prim.Native.Nat.{ℕ, suc, ◌≤◌, ◌<◌}
+use Prim.Native.Nat.{ℕ, suc, ◌+◌, ◌≤◌, ◌<◌}
 use native.Mathlib.Nat.{not-suc-le-zero}
+use native.Mathlib.Numerals.{add-one}
 use native.Mathlib.Omega.{arith}
 use mathlib.Core.Path.{◌≡◌, refl}
 use mathlib.Core.Logic.{⊎_elim}
 use mathlib.Core.Bool.{Bool, true, false, cond}
 use mathlib.Core.List.{List, [], ◌∷◌}
-use borrow.Author.Tests.{ltb-true, ltb-false}
+use borrow.Author.Tests.{eq-eqb, ne_eqb, ltb-true, ltb-false}
 use lib.Dec.{eqb, ltb}
-use lib.ListN.{length, take, drop}
+use lib.ListN.{length, take, drop, get_or, drop_of_length-le}
+use lib.Seq.{drop-cons}
 use Rattle.rules.proofs.Bools.{tested}
 use Rattle.lines.specs.Words.{onto, words, front}
+
+module _ (bytes : List ℕ) (i : ℕ) where
+  -- a space ends a word
+  pub front_here : i < length bytes → get_or bytes i 0 ≡ 32 → front (drop i bytes) ≡ 0
+  front_here l e = rw (drop-cons bytes i 0 l, eq-eqb (get_or bytes i 0) 32 e)
+
+  -- any other byte belongs to it
+  pub front_more : i < length bytes → (get_or bytes i 0 ≡ 32 → ⊥) → front (drop i bytes) ≡ suc (front (drop (i + 1) bytes))
+  front_more l d = rw (add-one, drop-cons bytes i 0 l, ne_eqb (get_or bytes i 0) 32 d)
+
+  -- the end of the bytes ends it too
+  pub front_end : length bytes ≤ i → front (drop i bytes) ≡ 0
+  front_end l = rw (drop_of_length-le bytes l)
 
 pub front_le : (bytes : List ℕ) → front bytes ≤ length bytes
 front_le [] = omega arith
