@@ -6,11 +6,11 @@ use mathlib.Core.Logic.{◌⊎◌, ⊎_elim}
 use mathlib.Core.Bool.{Bool, true, false, not, ◌&&◌, ◌||◌}
 use mathlib.Core.List.{List}
 use borrow.Author.Tests.{ltb-true, lt-leb}
-use lib.Dec.{ltb, leb}
+use lib.Dec.{ltb, leb, eqb}
 use lib.ListN.{length, take}
 use Rattle.rules.specs.declared.Record.{Record}
 use Rattle.rules.specs.Nodes.{nodes, empty}
-use Rattle.rules.specs.Records.{at, above, holds, called}
+use Rattle.rules.specs.Records.{at, is_commit, above, holds, called}
 use Rattle.rules.specs.First.{every}
 use Rattle.rules.specs.Clocks.{clock}
 use Rattle.rules.specs.State.{shaped, timely}
@@ -19,6 +19,16 @@ use Rattle.rules.proofs.First.{every_not}
 use Rattle.records.specs.Used.{used}
 use Rattle.tables.specs.Table.{shaped_by, concerns}
 use Rattle.records.proofs.Places.{used_length, used_at}
+
+-- what the loops test of record i among the first ones: that it is record 0 or well shaped, that no clock is behind it, that it is a commit
+abbrev pub well_shaped : ℕ → List Record → ℕ → Bool
+well_shaped count records i = eqb i 0 || shaped (take count records) (at (take count records) i)
+
+abbrev pub in_time : List ℕ → ℕ → List Record → ℕ → Bool
+in_time clocks count records i = timely clocks i (at (take count records) i)
+
+abbrev pub commits : ℕ → List Record → ℕ → Bool
+commits count records i = is_commit (at (take count records) i)
 
 -- a record is well shaped as the place of its parent says
 pub shaped_by_lem : (records : List Record) (count : ℕ) (r : Record) → length records ≡ 256

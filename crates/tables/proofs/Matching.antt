@@ -3,7 +3,7 @@ use Prim.Native.Nat.{ℕ, zero, suc, ◌+◌, ◌-◌, ◌≤◌, ◌<◌, min}
 use native.Mathlib.Nat.{not-suc-le-zero, le_of_suc-le-suc, zero-min, suc-min-suc}
 use native.Mathlib.Omega.{arith}
 use mathlib.Core.Path.{◌≡◌, refl, sym, ap, ◌∙◌}
-use mathlib.Core.Bool.{Bool, true, false, ◌&&◌, and_true, and-false, and_assoc}
+use mathlib.Core.Bool.{Bool, true, false, ◌&&◌, and-true, and-false, and_assoc}
 use mathlib.Core.List.{List, [], ◌∷◌, ◌++◌, reverse, reverse-cons}
 use borrow.Author.Tests.{eq-eqb, ne_eqb}
 use lib.Dec.{eqb}
@@ -60,7 +60,7 @@ same_long x [] = refl
 same_long x (a ∷ rest) = refl
 
 same_last : (rest bs : List ℕ) (x y : ℕ) → same (rest ++ (x ∷ [])) (bs ++ (y ∷ [])) ≡ same rest bs && eqb x y
-same_last [] [] x y = and_true (eqb x y)
+same_last [] [] x y = and-true (eqb x y)
 same_last [] (b ∷ bs) x y = ap (λ (t : Bool). eqb x b && t) (same_short y bs) ∙ and-false (eqb x b)
 same_last (a ∷ rest) [] x y = ap (λ (t : Bool). eqb a y && t) (same_long x rest) ∙ and-false (eqb a y)
 same_last (a ∷ rest) (b ∷ bs) x y =
@@ -120,5 +120,30 @@ pub match_on : (log : List ℕ) (place here x : ℕ) (xs : List ℕ) → place �
 match_on log place here x xs l d e q =
     match_last log place x xs l d
     ∙ ap (λ (t : Bool). matches log (place - 1) xs && t) (eq-eqb (get_or log (place - 1) 0) x e)
-    ∙ and_true (matches log (place - 1) xs)
+    ∙ and-true (matches log (place - 1) xs)
     ∙ ap (λ (k : ℕ). matches log k xs) (sym q)
+
+-- What a walk up a path does to the match: it reads the log's last number at an entry, and nothing elsewhere.
+
+module _ (log : List ℕ) (records : List Record) (place left j : ℕ) (more : 0 < left) where
+  -- the log has nothing left for the entry that the walk is at
+  pub read_over : is_entry (at records j) ≡ true → place ≡ 0 → matches log place (listed records left j) ≡ false
+  read_over e z = ap (matches log place) (listed_here records left j more e) ∙ match_over log place j (further records left j) z
+
+  -- its last number is not the entry's
+  pub read_other : is_entry (at records j) ≡ true → place ≤ length log → (place ≡ 0 → ⊥) → (get_or log (place - 1) 0 ≡ j → ⊥)
+      → matches log place (listed records left j) ≡ false
+  read_other e l d f =
+      ap (matches log place) (listed_here records left j more e) ∙ match_other log place j (further records left j) l d f
+
+  -- it is, and the place before it is next
+  pub read_entry : (here : ℕ) → is_entry (at records j) ≡ true → place ≤ length log → (place ≡ 0 → ⊥) → get_or log (place - 1) 0 ≡ j
+      → here ≡ place - 1 → matches log place (listed records left j) ≡ matches log here (further records left j)
+  read_entry here e l d f q =
+      ap (matches log place) (listed_here records left j more e) ∙ match_on log place here j (further records left j) l d f q
+
+  -- the walk is at no entry
+  pub read_past : (here : ℕ) → is_entry (at records j) ≡ false → here ≡ place
+      → matches log place (listed records left j) ≡ matches log here (further records left j)
+  read_past here e q =
+      ap (matches log place) (listed_other records left j more e) ∙ ap (λ (k : ℕ). matches log k (further records left j)) (sym q)

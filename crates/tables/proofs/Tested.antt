@@ -1,11 +1,12 @@
 -- The test for a table, of the arrays: out of range there is no table, and in range the clauses are those of the records in use.
 use Prim.Native.Nat.{ℕ, zero, suc, ◌≤◌, ◌<◌}
 use native.Mathlib.Omega.{arith}
+use native.Mathlib.Decide.{ℕ_discrete}
 use mathlib.Core.Path.{◌≡◌, refl, sym, ap, ap₂, ◌∙◌}
-use mathlib.Core.Logic.{⊎_elim}
+use mathlib.Core.Logic.{◌⊎◌, ⊎_elim}
 use mathlib.Core.Bool.{Bool, true, false, cond, ◌&&◌}
 use mathlib.Core.List.{List, [], ◌∷◌, reverse}
-use borrow.Author.Tests.{le-leb, lt-leb, lt-ltb}
+use borrow.Author.Tests.{le-leb, lt-leb, lt-ltb, leb-true, leb-false, ne_eqb}
 use lib.Dec.{ltb, leb, eqb}
 use lib.ListN.{length, take}
 use lib.Seq.{length-take-le, get_or-take}
@@ -75,3 +76,43 @@ module _ (clocks : List ℕ) (records : List Record) (count : ℕ) (log : List �
       unfolding log_of
       log_is =
           ap (λ l. same (take size log) (reverse l)) (sym (log_shown records count (omega arith) (rising (take count records) shape) (latest_commit (take count records)) last_known))
+
+  -- Each clause that fails leaves no table, in range or out of it.
+  module _ (full : length records ≡ 256) where
+    within : ((some : 0 < count) (few : count ≤ 256) (short : size ≤ 256) → is_table state ≡ false) → is_table state ≡ false
+    within h = first (ℕ_discrete count 0)
+      where
+        third : 0 < count → count ≤ 256 → (leb size 256 ≡ true) ⊎ (leb size 256 ≡ false) → is_table state ≡ false
+        third some few w = ⊎_elim (λ e. h some few (leb-true size 256 e)) (λ e. too_long (leb-false size 256 e)) w
+
+        second : 0 < count → (leb count 256 ≡ true) ⊎ (leb count 256 ≡ false) → is_table state ≡ false
+        second some w =
+            ⊎_elim (λ e. third some (leb-true count 256 e) (tested (leb size 256))) (λ e. too_many (leb-false count 256 e)) w
+
+        first : Dec (count ≡ 0) → is_table state ≡ false
+        first (yes e) = too_few e
+        first (no d) = second (omega arith) (tested (leb count 256))
+
+    pub no_opening : is_opening (at records 0) ≡ false → is_table state ≡ false
+    no_opening e = within (λ some few short. in_range some few short full ∙ rw e)
+
+    pub no_shape : all_shaped (take count records) ≡ false → is_table state ≡ false
+    no_shape e =
+        within (λ some few short. in_range some few short full ∙ and_false_right (is_opening (at records 0)) (rw e))
+
+    pub no_time : all_timely clocks (take count records) ≡ false → is_table state ≡ false
+    no_time e =
+        within
+        (λ some few short. in_range some few short full
+        ∙ and_false_right (is_opening (at records 0)) (and_false_right (all_shaped (take count records)) (rw e)))
+
+    -- the walk along the array counts other than all commits
+    pub no_branch : all_shaped (take count records) ≡ true
+        → (commits_along records (path_of records count (latest_commit (take count records))) ≡ commits_in (take count records) → ⊥)
+        → is_table state ≡ false
+    no_branch e d =
+        within
+        (λ some few short. in_range some few short full
+        ∙ and_false_right (is_opening (at records 0))
+        (and_false_right (all_shaped (take count records))
+        (and_false_right (all_timely clocks (take count records)) (rw (branch_is some few short full e ∙ ne_eqb _ _ d)))))

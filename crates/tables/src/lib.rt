@@ -24,6 +24,7 @@ fn commit_by(kind: Kind, set: u16) -> bool
 }
 
 // Is the record as opening with its own non-empty member set makes it?
+#[tactic(auto, unfolding(rules::specs::State::is_opening, rules::specs::Nodes::empty))]
 fn is_opening(r: Record) -> bool
     ensures { result ≡ is_opening r }
 {
@@ -47,6 +48,7 @@ fn is_opening(r: Record) -> bool
 }
 
 // Is a record other than record 0 well shaped, where n records are in use and p stands at its parent's place?
+#[tactic(auto, unfolding(crate::specs::Table::shaped_by, rules::specs::Nodes::nodes, rules::specs::Nodes::empty))]
 fn shaped_by(r: Record, p: Record, n: usize) -> bool
     ensures { result ≡ shaped_by r p n }
 {
@@ -63,6 +65,7 @@ fn shaped_by(r: Record, p: Record, n: usize) -> bool
 }
 
 // Is every record but record 0 well shaped?
+#[tactic(auto, using(records::proofs::Places::used_small))]
 fn all_shaped(records: [Record; 256], count: usize) -> bool
     ensures { result ≡ all_shaped (take count records) }
 {
@@ -81,6 +84,7 @@ fn all_shaped(records: [Record; 256], count: usize) -> bool
 }
 
 // Does the node hold record r, whose number is i, or did it call it?
+#[tactic(auto, unfolding(crate::specs::Table::concerns))]
 fn concerns(i: usize, r: Record, node: usize) -> bool
     ensures { result ≡ concerns i r node }
 {
@@ -106,6 +110,7 @@ fn timely(clocks: [u32; 16], i: usize, r: Record) -> bool
 }
 
 // Is that so of every record?
+#[tactic(auto, using(records::proofs::Places::used_small, records::proofs::Places::used_at, records::proofs::Places::used_length, rules::proofs::First::every_more, rules::proofs::First::every_not, rules::proofs::First::every_less), unfolding(rules::specs::State::all_timely))]
 fn all_timely(clocks: [u32; 16], records: [Record; 256], count: usize) -> bool
     ensures { result ≡ all_timely clocks (take count records) }
 {
@@ -122,6 +127,7 @@ fn all_timely(clocks: [u32; 16], records: [Record; 256], count: usize) -> bool
 }
 
 // How many commits are there?
+#[tactic(auto, using(records::proofs::Places::used_small, records::proofs::Places::used_at, records::proofs::Places::used_length), unfolding(crate::specs::Table::commits_in))]
 fn commits_in(records: [Record; 256], count: usize) -> usize
     ensures { result ≡ commits_in (take count records) }
 {
@@ -139,6 +145,7 @@ fn commits_in(records: [Record; 256], count: usize) -> usize
 }
 
 // How many commits are on the path of record i?
+#[tactic(auto, using(crate::proofs::Matching::commits_here, crate::proofs::Matching::commits_other, paths::proofs::Walk::onward_up))]
 fn commits_along(records: [Record; 256], steps: usize, i: u8) -> usize
     ensures { result ≡ commits_along records (path_of records steps i) }
 {
@@ -160,6 +167,7 @@ fn commits_along(records: [Record; 256], steps: usize, i: u8) -> usize
 }
 
 // Is the log the commands and changes on the path of record i, oldest first? It is read backwards on the way up.
+#[tactic(auto, using(records::proofs::Places::used_small, crate::proofs::Matching::match_used, crate::proofs::Matching::read_over, crate::proofs::Matching::read_other, crate::proofs::Matching::read_entry, crate::proofs::Matching::read_past, crate::proofs::Matching::further_up))]
 fn log_along(log: [u32; 256], length: usize, records: [Record; 256], steps: usize, i: u8) -> bool
     ensures { result ≡ same (take length log) (reverse (entries records (path_of records steps i))) }
 {
@@ -187,6 +195,7 @@ fn log_along(log: [u32; 256], length: usize, records: [Record; 256], steps: usiz
 }
 
 // Do clocks, records and log make a table?
+#[tactic(auto, using(crate::proofs::Tested::too_few, crate::proofs::Tested::too_many, crate::proofs::Tested::too_long, crate::proofs::Tested::no_opening, crate::proofs::Tested::no_shape, crate::proofs::Tested::no_time))]
 pub fn is_table(
     clocks: [u32; 16],
     records: [Record; 256],
