@@ -78,3 +78,8 @@ pub written_past : (log after : List ℕ) (place here i : ℕ) (xs : List ℕ)
     → (place ≡ 0 → ⊥) → length log ≤ place - 1 → after ≡ log → here ≡ place - 1
     → written log place (i ∷ xs) ≡ written after here xs
 written_past log after place here i xs d l e q = written_one log after place here i xs d (e ∙ sym (set_out log (place - 1) i l)) q
+
+-- the steps of a walk, in `gains` and in `write_gained`
+pub ruleset gain_steps = (gain_entry, gain_other, beyond_root, beyond_up)
+
+pub ruleset write_steps = (gain_steps, written_one, written_past)

@@ -1,13 +1,11 @@
 -- What a push moves in the arrays is what it moves in the table.
-use Prim.Native.Nat.{ℕ, zero, suc, ◌+◌, ◌≤◌, ◌<◌}
+use Prim.Native.Nat.{ℕ, zero, suc, ◌+◌, ◌≤◌}
 use native.Mathlib.Nat.{add-zero, add-suc}
 use native.Mathlib.Omega.{arith}
 use mathlib.Core.Path.{◌≡◌, refl, sym, ap, ap₂, ◌∙◌}
-use mathlib.Core.Bool.{Bool, true, false, cond, ◌&&◌, ◌||◌}
 use mathlib.Core.List.{List, [], ◌∷◌, ◌++◌, map, reverse, append-nil, append_assoc, reverse-cons}
-use lib.Dec.{eqb}
 use lib.ListN.{length, take, get_or, set, length-set}
-use lib.Seq.{length-take-le, get_or-take, get_or-set_same, get_or-set_other, take-suc, take-suc-set, take-set-le}
+use lib.Seq.{get_or-set_same, get_or-set_other, take-suc, take-suc-set, take-set-le}
 use Rattle.rules.specs.declared.Record.{Record}
 use Rattle.rules.specs.Records.{blank, at}
 use Rattle.rules.specs.Proposals.{adopted}

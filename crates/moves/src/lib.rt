@@ -45,6 +45,7 @@ pub fn adopt(records: [Record; 256], count: usize, target: u8, new: u8) -> [Reco
 }
 
 // How many commands and changes does the path of record i have before it comes to record `stop`?
+#[tactic(auto, using(crate::proofs::Pushed::gain_steps))]
 pub fn gains(records: [Record; 256], steps: usize, stop: u8, i: u8) -> usize
     ensures { result ≡ length (entries records (before stop (path_of records steps i))) }
 {
@@ -69,6 +70,7 @@ pub fn gains(records: [Record; 256], steps: usize, stop: u8, i: u8) -> usize
 }
 
 // The log with those entries written to it, the newest just before place `end`.
+#[tactic(auto, using(crate::proofs::Pushed::write_steps))]
 pub fn write_gained(
     log: [u32; 256],
     end: usize,

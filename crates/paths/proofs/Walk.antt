@@ -89,3 +89,10 @@ module _ (records : List Record) (left j : ℕ) where
   pub commit_on : (time : ℕ) → 0 < left → is_commit (at records j) && eqb (at records j).time time ≡ false
       → commit_along records time (path_of records left j) ≡ commit_along records time (onward records left j)
   commit_on time l e = rw (path_first records left j l, e)
+
+-- the steps of a walk, for each of the three searches
+pub ruleset among_steps = (path_none, onward_root, onward_up, among_here, among_on)
+
+pub ruleset open_steps = (path_none, onward_root, onward_up, open_shut, open_here, open_on)
+
+pub ruleset commit_steps = (path_none, onward_root, onward_up, commit_here, commit_on)

@@ -8,6 +8,7 @@ use records::{is_change, is_commit};
 use rules::Record;
 
 // Is record a on the path of record i?
+#[tactic(auto, using(crate::proofs::Walk::among_steps))]
 pub fn on_path(records: [Record; 256], steps: usize, a: u8, i: u8) -> bool
     ensures { result ≡ among a (path_of records steps i) }
 {
@@ -28,6 +29,7 @@ pub fn on_path(records: [Record; 256], steps: usize, a: u8, i: u8) -> bool
 }
 
 // Has the path of record i an open change? The search leaves the path at the first commit or change it meets.
+#[tactic(auto, using(crate::proofs::Walk::open_steps))]
 pub fn open_change(records: [Record; 256], steps: usize, i: u8) -> bool
     ensures { result ≡ open_along records (path_of records steps i) }
 {
@@ -54,6 +56,7 @@ pub fn open_change(records: [Record; 256], steps: usize, i: u8) -> bool
 }
 
 // Has the path of record i a commit of this time?
+#[tactic(auto, using(crate::proofs::Walk::commit_steps))]
 pub fn commit_of_time(records: [Record; 256], steps: usize, time: u32, i: u8) -> bool
     ensures { result ≡ commit_along records time (path_of records steps i) }
 {
