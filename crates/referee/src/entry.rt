@@ -58,8 +58,8 @@ impl Table {
 
     // The rest of a reconfigure, under head h, whose number is i: refusals 3, 9, 10 and 11, and the growth.
     fn change(self, i: u8, h: Record, caller: u8, new: u16) -> Outcome
-        requires self_value { is_table (view self) ≡ true }
-        requires i_lt_count { i < self.count }
+        requires table { is_table (view self) ≡ true }
+        requires head_known { i < self.count }
         ensures { Meets self (changed_on (view self) i h caller new) result }
     {
         if !nodes::has(new, caller as usize) {

@@ -55,10 +55,10 @@ impl Table {
 
     // A record added, with the next number.
     fn add(self, r: Record) -> Outcome
-        requires count_bound { self.count < 256 }
-        requires length_bound { self.length ≤ 256 }
-        ensures result_value { seen result ≡ added (view self) r }
-        ensures answer_value { result.answer ≡ Answer.Accepted self.count }
+        requires room { self.count < 256 }
+        requires log_fits { self.length ≤ 256 }
+        ensures adds { seen result ≡ added (view self) r }
+        ensures accepts { result.answer ≡ Answer.Accepted self.count }
     {
         let n = self.count;
         let mut after = self;

@@ -55,8 +55,8 @@ impl Table {
 
     // The rest of a push of the target, whose record is t: refusals 8, 3, 4 and 5, and the vote.
     fn push_on(self, t: Record, caller: u8, voters: u16, target: u8) -> Outcome
-        requires self_value { is_table (view self) ≡ true }
-        requires target_lt_count { target < self.count }
+        requires table { is_table (view self) ≡ true }
+        requires target_known { target < self.count }
         ensures { Meets self (pushed_on (view self) t caller voters target) result }
     {
         let records = self.records;
@@ -87,8 +87,8 @@ impl Table {
 
     // A push that a majority votes for: refusals 17 and 12, and the commit.
     fn commit(self, t: Record, caller: u8, voters: u16, target: u8) -> Outcome
-        requires self_value { is_table (view self) ≡ true }
-        requires target_lt_count { target < self.count }
+        requires table { is_table (view self) ≡ true }
+        requires target_known { target < self.count }
         ensures { Meets self (committed_on (view self) t caller voters target) result }
     {
         let n = self.count;
