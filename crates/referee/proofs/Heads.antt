@@ -1,19 +1,18 @@
 -- Leading and growing: what the head found says of the orders of invoke and reconfigure.
 use Prim.Native.Nat.{ℕ}
-use mathlib.Core.Path.{◌≡◌, ap, ◌∙◌}
-use mathlib.Core.Bool.{Bool, true, false, cond, not, ◌&&◌}
+use mathlib.Core.Path.{◌≡◌, ap}
+use mathlib.Core.Bool.{true, false}
 use mathlib.Core.List.{List}
 use lib.Dec.{ltb, eqb}
 use Rattle.rules.specs.declared.Kind.{Kind}
 use Rattle.rules.specs.declared.Kind.TheVariants.{Command, Change}
 use Rattle.rules.specs.declared.Record.{Record}
 use Rattle.rules.specs.declared.Refusal.TheVariants.{EmptySet, NoSuchCaller, CallerAbsent, NotLeading, NotNext, OpenChange, NoCommitYet, TableFull, VersionsOut, NoTable}
-use Rattle.rules.specs.declared.Found.{Found}
 use Rattle.rules.specs.declared.Found.TheVariants.{At, Nothing}
 use Rattle.rules.specs.Nodes.{has, empty}
 use Rattle.rules.specs.Scheme.{next}
 use Rattle.rules.specs.Clocks.{clock}
-use Rattle.rules.specs.Tree.{number_of, record_of, last_called, leading, leads, open_change, commit_of_time}
+use Rattle.rules.specs.Tree.{last_called, leading, leads, open_change, commit_of_time}
 use Rattle.rules.specs.State.{State, is_table, full}
 use Rattle.rules.specs.Proposals.{refused_in, added, entry, invoke_on, invoke, reconfigure_on, reconfigure}
 use Rattle.referee.specs.Rest.{grown_on, changed_on}

@@ -1,9 +1,8 @@
 -- Reading a struct as a state: what a table's numbers are, and what a change of the struct changes in the state.
-use Prim.Native.Nat.{ℕ, zero, suc, ◌+◌, ◌≤◌, ◌<◌}
+use Prim.Native.Nat.{ℕ, ◌+◌, ◌≤◌, ◌<◌}
 use native.Mathlib.Numerals.{add-one}
 use native.Mathlib.Omega.{arith}
-use mathlib.Core.Path.{◌≡◌, refl, sym, ap, ap₂, ◌∙◌}
-use mathlib.Core.Logic.{◌⊎◌, ⊎_elim}
+use mathlib.Core.Path.{◌≡◌, refl, sym, ap, ◌∙◌}
 use mathlib.Core.Bool.{Bool, true, false, cond, ◌&&◌}
 use mathlib.Core.List.{List, [], ◌∷◌, ◌++◌}
 use borrow.Author.Tests.{le-leb, lt-leb, leb-true}
@@ -16,12 +15,12 @@ use Rattle.rules.specs.Clocks.{moved}
 use Rattle.rules.specs.Proposals.{Result, added, voted}
 use Rattle.rules.specs.declared.Answer.{Answer}
 use Rattle.rules.specs.declared.Answer.TheVariants.{Accepted}
-use Rattle.rules.proofs.Bools.{tested, torn, and_left, and_right}
-use Rattle.rules.proofs.State.{Table, table_says}
+use Rattle.rules.proofs.Bools.{and_left, and_right}
+use Rattle.rules.proofs.State.{table_says}
 use Rattle.rules.specs.declared.Found.TheVariants.{At}
 use Rattle.rules.specs.Records.{called}
 use Rattle.rules.specs.Tree.{latest, last_called}
-use Rattle.rules.proofs.Latest.{Right, latest_right}
+use Rattle.rules.proofs.Latest.{latest_right}
 use Rattle.rules.proofs.Paths.{Rising, rising}
 use Rattle.records.specs.Used.{shown}
 

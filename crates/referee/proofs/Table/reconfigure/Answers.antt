@@ -1,0 +1,75 @@
+-- Each refusal is one line of the order; the rest is the change under the head.
+use native.Mathlib.Omega.{arith}
+use mathlib.Core.Path.{◌≡◌, sym, ap, ◌∙◌}
+use borrow.Author.Tests.{lt-ltb, le-ltb, eq-eqb, ne_eqb}
+use lib.Dec.{eqb}
+use lib.ListN.{length}
+use Rattle.rules.specs.declared.Refusal.TheVariants.{EmptySet, NoSuchCaller, NotLeading, NoTable}
+use Rattle.rules.specs.Clocks.{clock}
+use Rattle.rules.specs.Tree.{last_called}
+use Rattle.referee.specs.View.{view}
+use Rattle.referee.proofs.Owed.{by_refusal}
+use Rattle.referee.proofs.Views.{clocks_is, records_is, length_is, called_known}
+use Rattle.referee.proofs.Heads.{leads_none, leads_by, reconfigure_16, reconfigure_2, reconfigure_1, reconfigure_6, reconfigure_rest}
+use borrow.Author.Rules.{rules}
+use Rattle.referee.proofs.Table.reconfigure.Goals as goal
+
+pub returns-then-not-is_table : goal.returns-then-not-is_table
+returns-then-not-is_table c =
+    let s = c.args in
+    let t = s.self in
+    by_refusal t _ c.refused.result NoTable c.refused.ensures
+    (reconfigure_16 (view t) s.caller s.new (sym c.is_table.ensures ∙ c.if-not-is_table.true))
+
+pub returns-then-caller-gt15 : goal.returns-then-caller-gt15
+returns-then-caller-gt15 c =
+    let s = c.args in
+    let t = s.self in
+    by_refusal t _ c.refused-then-caller-gt15.result NoSuchCaller c.refused-then-caller-gt15.ensures
+    (reconfigure_2 (view t) s.caller s.new (sym c.is_table.ensures ∙ c.if-not-is_table.false) (lt-ltb 15 s.caller c.if-caller-gt15.true))
+
+pub returns-then-new-eq0 : goal.returns-then-new-eq0
+returns-then-new-eq0 c =
+    let s = c.args in
+    let t = s.self in
+    by_refusal t _ c.refused-then-new-eq0.result EmptySet c.refused-then-new-eq0.ensures
+    (reconfigure_1 (view t) s.caller s.new (sym c.is_table.ensures ∙ c.if-not-is_table.false) (le-ltb 15 s.caller c.if-caller-gt15.false) (eq-eqb s.new 0 c.if-new-eq0.true))
+
+pub returns-in_default : goal.returns-in_default
+returns-in_default c =
+    let s = c.args in
+    let t = s.self in
+    let table = sym c.is_table.ensures ∙ c.if-not-is_table.false in
+    let found = ap (λ rs. last_called rs s.caller) (records_is t.clocks t.records t.count t.log t.length table) ∙ sym c.last_called-head.ensures ∙ c.in_default.is in
+    by_refusal t _ c.refused-in_default.result NotLeading c.refused-in_default.ensures
+    (reconfigure_6 (view t) s.caller s.new table (le-ltb 15 s.caller c.if-caller-gt15.false) (ne_eqb s.new 0 c.if-new-eq0.false) (leads_none (view t).clocks (view t).records s.caller found))
+
+pub returns-then-h-clocks : goal.returns-then-h-clocks
+returns-then-h-clocks c =
+    let s = c.args in
+    let t = s.self in
+    let table = sym c.is_table.ensures ∙ c.if-not-is_table.false in
+    let found = ap (λ rs. last_called rs s.caller) (records_is t.clocks t.records t.count t.log t.length table) ∙ sym c.last_called-head.ensures ∙ c.in-At.is in
+    let h = c.in-At in
+    let leads' = leads_by (view t).clocks (view t).records s.caller h.i h.h found ∙ ap (λ k. eqb h.h.time (clock k s.caller)) (clocks_is t.clocks t.records t.count t.log t.length) ∙ ne_eqb _ _ c.if-h-clocks.true in
+    by_refusal t _ c.refused-then-h-clocks.result NotLeading c.refused-then-h-clocks.ensures
+    (reconfigure_6 (view t) s.caller s.new table (le-ltb 15 s.caller c.if-caller-gt15.false) (ne_eqb s.new 0 c.if-new-eq0.false) leads')
+
+pub change-requires-clause-head_known : goal.change-requires-clause-head_known
+change-requires-clause-head_known c =
+    let s = c.args in
+    let t = s.self in
+    let whole : length t.records ≡ 256 = search rules in
+    let table = sym c.is_table.ensures ∙ c.if-not-is_table.false in
+    let found = ap (λ rs. last_called rs s.caller) (records_is t.clocks t.records t.count t.log t.length table) ∙ sym c.last_called-head.ensures ∙ c.in-At.is in
+    omega (arith, length_is t.clocks t.records t.count t.log t.length table whole, called_known t.clocks t.records t.count t.log t.length table s.caller c.in-At.i c.in-At.h found)
+
+pub returns : goal.returns
+returns c =
+    let s = c.args in
+    let t = s.self in
+    let table = sym c.is_table.ensures ∙ c.if-not-is_table.false in
+    let found = ap (λ rs. last_called rs s.caller) (records_is t.clocks t.records t.count t.log t.length table) ∙ sym c.last_called-head.ensures ∙ c.in-At.is in
+    let h = c.in-At in
+    let leads' = leads_by (view t).clocks (view t).records s.caller h.i h.h found ∙ ap (λ k. eqb h.h.time (clock k s.caller)) (clocks_is t.clocks t.records t.count t.log t.length) ∙ eq-eqb _ _ c.if-h-clocks.false in
+    rw (reconfigure_rest (view t) s.caller s.new h.i h.h table (le-ltb 15 s.caller c.if-caller-gt15.false) (ne_eqb s.new 0 c.if-new-eq0.false) leads' found) c.change.ensures
