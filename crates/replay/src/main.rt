@@ -1,10 +1,10 @@
 // Proposals from standard input, a line each, and their answers to standard output. At the end, the log.
 #![tactic(auto)]
 
-use libc::{STDIN_FILENO, STDOUT_FILENO};
 use lines::Line;
 use referee::{Outcome, Table};
 use rules::{Answer, Proposal, Reading};
+use std::io::{Read, Stdin, Stdout, Write};
 
 // The present table, and whether one was opened.
 #[derive(Clone, Copy)]
@@ -163,26 +163,26 @@ fn feed(t: Taken, input: &[u8], out: &mut [u8]) -> Taken {
     now
 }
 
-// Reads a part of the input, answers its lines and writes the answers. The last part is empty.
-fn turn(t: Taken) -> Taken {
-    let mut input = io::buffer();
-    let mut out = io::large_buffer();
-    let got = libc::read(STDIN_FILENO, &mut input);
-    if got <= 0 {
-        return finished(t);
+// Reads a part of the input, answers its lines and writes the answers. The last part is empty. A read that fails counts as one.
+fn turn(t: Taken, mut stdin: Stdin, stdout: Stdout) -> Taken {
+    let mut input = [0u8; 4096];
+    let mut out = [0u8; 65536];
+    match stdin.read(&mut input) {
+        Ok(0) | Err(_) => finished(t, stdout),
+        Ok(n) => {
+            let fed = feed(t, &input[..n], &mut out);
+            written(fed, &out, stdout)
+        }
     }
-    let n = io::count(got, &input);
-    let fed = feed(t, &input[..n], &mut out);
-    written(fed, &out)
 }
 
 // The answers so far written out; where that fails, nothing more is to be done.
-fn written(t: Taken, out: &[u8]) -> Taken {
+fn written(t: Taken, out: &[u8], mut stdout: Stdout) -> Taken {
     let mut after = t;
     let at = t.at;
     after.at = 0;
     if at <= out.len() {
-        if !io::write_all(STDOUT_FILENO, &out[..at]) {
+        if stdout.write_all(&out[..at]).is_err() {
             after.over = true;
         }
     }
@@ -190,45 +190,47 @@ fn written(t: Taken, out: &[u8]) -> Taken {
 }
 
 // The end of the input: a line without its newline counts, and the log is printed.
-fn finished(t: Taken) -> Taken {
+fn finished(t: Taken, stdout: Stdout) -> Taken {
     let mut out = [0u8; 64];
     let mut after = t;
     if t.length > 0 {
-        after = written(ended(t, &mut out), &out);
+        after = written(ended(t, &mut out), &out, stdout);
     }
-    let session = after.session;
-    last(session);
+    if !after.over {
+        let session = after.session;
+        last(session, stdout);
+    }
     after.over = true;
     after
 }
 
 // The last line: the log's length and its entries.
-fn last(s: Session) {
+fn last(s: Session, mut stdout: Stdout) {
     let mut entries = [0u32; 256];
-    let mut line = io::buffer();
+    let mut line = [0u8; 4096];
     if !s.opened {
-        io::write_all(STDOUT_FILENO, b"L 0\n");
+        let _ = stdout.write_all(b"L 0\n");
         return;
     }
     let t = s.table;
     let copied = t.copy_log(&mut entries);
     match copied {
-        Reading::Number(n) => print_entries(&entries, n as usize, &mut line),
+        Reading::Number(n) => print_entries(&entries, n as usize, &mut line, stdout),
         Reading::Refused(_) => {}
     }
 }
 
-fn print_entries(entries: &[u32], length: usize, line: &mut [u8]) {
+fn print_entries(entries: &[u32], length: usize, line: &mut [u8], mut stdout: Stdout) {
     if length <= entries.len() {
         let n = lines::print_log(&entries[..length], line);
         if n <= line.len() {
-            io::write_all(STDOUT_FILENO, &line[..n]);
+            let _ = stdout.write_all(&line[..n]);
         }
     }
 }
 
 // A proved loop has to end, and nothing says that the input does: the loop counts its turns down from a number that no run uses up.
-fn main() {
+fn main(rt: HostRuntime) {
     let table = Table::open(7).state;
     let mut t = Taken {
         session: Session {
@@ -242,7 +244,7 @@ fn main() {
     };
     let mut turns = u64::MAX;
     while turns > 0 && !t.over {
-        t = turn(t);
+        t = turn(t, rt.stdin(), rt.stdout());
         turns -= 1;
     }
 }
