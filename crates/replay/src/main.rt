@@ -196,10 +196,8 @@ fn finished(t: Taken, stdout: Stdout) -> Taken {
     if t.length > 0 {
         after = written(ended(t, &mut out), &out, stdout);
     }
-    if !after.over {
-        let session = after.session;
-        last(session, stdout);
-    }
+    let session = after.session;
+    last(session, stdout);
     after.over = true;
     after
 }

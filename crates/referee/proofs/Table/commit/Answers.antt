@@ -45,7 +45,7 @@ returns-then-n-gt255 c =
     a.caller
     a.voters
     (sym c.on_path.ensures ∙ c.if-not-on_path.false)
-    c.if-n-gt255.true)
+    (omega arith))
 
 -- the log's new length is at most the number of records
 pub overflow_add-end : goal.overflow_add-end
@@ -108,7 +108,7 @@ returns c =
     a.caller
     a.voters
     (sym c.on_path.ensures ∙ c.if-not-on_path.false)
-    c.if-n-gt255.false
+    (omega arith)
     c.moved-moved.result
     c.adopt-adopted.result
     c.write_gained-written.result

@@ -10,6 +10,7 @@ use Rattle.referee.proofs.Owed.{by_refusal, by_addition, by_short}
 use Rattle.referee.proofs.Views.{short, shown_voted, is_full, has_room, result}
 use Rattle.referee.proofs.Rests.{elected_short, elected_added}
 use borrow.Author.Rules.{rules}
+use native.Mathlib.Omega.{arith}
 use Rattle.referee.proofs.Table.elect.Goals as goal
 
 pub returns-then-not-within : goal.returns-then-not-within
@@ -39,7 +40,7 @@ returns-then-self-gt255 c =
     (rw (
       sym c.within.ensures ∙ c.if-not-within.false,
       sym c.quorum.ensures ∙ c.if-not-quorum.false,
-      is_full t.clocks t.records t.count t.log t.length c.requires whole c.if-self-gt255.true,
+      is_full t.clocks t.records t.count t.log t.length c.requires whole (omega arith),
     ))
 
 pub add-requires-clause-log_fits : goal.add-requires-clause-log_fits
@@ -54,7 +55,7 @@ returns c =
     let whole : length t.records ≡ 256 = search rules in
     let inside = sym c.within.ensures ∙ c.if-not-within.false in
     let won = sym c.quorum.ensures ∙ c.if-not-quorum.false in
-    let room = has_room t.clocks t.records t.count t.log t.length c.requires whole c.if-self-gt255.false in
+    let room = has_room t.clocks t.records t.count t.log t.length c.requires whole (omega arith) in
     by_addition t _ c.add.result t.count c.add.ensures.accepts
     (c.add.ensures.adds
     ∙ ap (λ v. added v (election s.i s.b s.caller s.voters s.time))

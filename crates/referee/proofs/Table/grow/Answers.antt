@@ -26,7 +26,7 @@ returns-then-self-gt255 c =
     let t = s.self in
     let whole : length t.records ≡ 256 = search rules in
     by_refusal t _ c.refused-then-self-gt255.result TableFull c.refused-then-self-gt255.ensures
-    (grown_12 (view t) s.i s.h s.caller s.members s.kind (ne_eqb s.h.version 255 c.if-h-eq255.false) (is_full t.clocks t.records t.count t.log t.length c.requires whole c.if-self-gt255.true))
+    (grown_12 (view t) s.i s.h s.caller s.members s.kind (ne_eqb s.h.version 255 c.if-h-eq255.false) (is_full t.clocks t.records t.count t.log t.length c.requires whole (omega arith)))
 
 pub overflow_add-h : goal.overflow_add-h
 overflow_add-h c = omega arith
@@ -43,4 +43,4 @@ returns c =
     let whole : length t.records ≡ 256 = search rules in
     by_addition t _ c.add.result t.count c.add.ensures.accepts
     (c.add.ensures.adds ∙ ap (λ v. added (view t) (record { parent = s.i; caller = s.caller; time = s.h.time; version = v; members = s.members; kind = s.kind })) (add-one s.h.version)
-    ∙ sym (grown_added (view t) s.i s.h s.caller s.members s.kind (ne_eqb s.h.version 255 c.if-h-eq255.false) (has_room t.clocks t.records t.count t.log t.length c.requires whole c.if-self-gt255.false)))
+    ∙ sym (grown_added (view t) s.i s.h s.caller s.members s.kind (ne_eqb s.h.version 255 c.if-h-eq255.false) (has_room t.clocks t.records t.count t.log t.length c.requires whole (omega arith))))

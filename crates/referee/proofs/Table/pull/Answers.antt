@@ -13,6 +13,7 @@ use Rattle.referee.proofs.Owed.{by_refusal}
 use Rattle.referee.proofs.Views.{clocks_is, records_is, some}
 use Rattle.referee.proofs.Rests.{pull_16, pull_2, pull_3, pull_5, pull_rest}
 use borrow.Author.Rules.{rules}
+use native.Mathlib.Omega.{arith}
 use Rattle.referee.proofs.Table.pull.Goals as goal
 
 pub returns-then-not-is_table : goal.returns-then-not-is_table
@@ -28,7 +29,7 @@ returns-then-caller-gt15 c =
     let t = s.self in
     by_refusal t _ c.refused-then-caller-gt15.result NoSuchCaller c.refused-then-caller-gt15.ensures
     (pull_2 (view t) s.caller s.voters s.time (sym c.is_table.ensures ∙ c.if-not-is_table.false)
-    (lt-ltb 15 s.caller c.if-caller-gt15.true))
+    (lt-ltb 15 s.caller (omega arith)))
 
 pub returns-then-not-has : goal.returns-then-not-has
 returns-then-not-has c =
@@ -36,7 +37,7 @@ returns-then-not-has c =
     let t = s.self in
     by_refusal t _ c.refused-then-not-has.result CallerAbsent c.refused-then-not-has.ensures
     (pull_3 (view t) s.caller s.voters s.time (sym c.is_table.ensures ∙ c.if-not-is_table.false)
-    (le-ltb 15 s.caller c.if-caller-gt15.false)
+    (le-ltb 15 s.caller (omega arith))
     (sym c.has.ensures ∙ c.if-not-has.true))
 
 pub returns-then-some_at_or_past : goal.returns-then-some_at_or_past
@@ -45,7 +46,7 @@ returns-then-some_at_or_past c =
     let t = s.self in
     by_refusal t _ c.refused-then-some_at_or_past.result ClockPast c.refused-then-some_at_or_past.ensures
     (pull_5 (view t) s.caller s.voters s.time (sym c.is_table.ensures ∙ c.if-not-is_table.false)
-    (le-ltb 15 s.caller c.if-caller-gt15.false)
+    (le-ltb 15 s.caller (omega arith))
     (sym c.has.ensures ∙ c.if-not-has.false)
     (ap (some_at_or_past s.voters s.time) (clocks_is t.clocks t.records t.count t.log t.length) ∙ sym c.some_at_or_past.ensures ∙ c.if-some_at_or_past.true))
 
@@ -57,7 +58,7 @@ returns-in_default c =
     let all = records_is t.clocks t.records t.count t.log t.length table in
     let found = ap (λ rs. base rs s.voters) all ∙ sym c.base-base.ensures ∙ c.in_default.is in
     let same =
-    pull_rest (view t) s.caller s.voters s.time table (le-ltb 15 s.caller c.if-caller-gt15.false)
+    pull_rest (view t) s.caller s.voters s.time table (le-ltb 15 s.caller (omega arith))
     (sym c.has.ensures ∙ c.if-not-has.false)
     (ap (some_at_or_past s.voters s.time) (clocks_is t.clocks t.records t.count t.log t.length) ∙ sym c.some_at_or_past.ensures ∙ c.if-some_at_or_past.false)
     ∙ ap (λ f. elected_on (view t) (number_of f) (record_of (view t).records f) s.caller s.voters s.time) found in
@@ -73,7 +74,7 @@ returns c =
     let all = records_is t.clocks t.records t.count t.log t.length table in
     let found = ap (λ rs. base rs s.voters) all ∙ sym c.base-base.ensures ∙ c.in-At.is in
     let same =
-    pull_rest (view t) s.caller s.voters s.time table (le-ltb 15 s.caller c.if-caller-gt15.false)
+    pull_rest (view t) s.caller s.voters s.time table (le-ltb 15 s.caller (omega arith))
     (sym c.has.ensures ∙ c.if-not-has.false)
     (ap (some_at_or_past s.voters s.time) (clocks_is t.clocks t.records t.count t.log t.length) ∙ sym c.some_at_or_past.ensures ∙ c.if-some_at_or_past.false)
     ∙ ap (λ f. elected_on (view t) (number_of f) (record_of (view t).records f) s.caller s.voters s.time) found in

@@ -25,7 +25,7 @@ returns-then-caller-gt15 c =
     let a = c.args in
     let table = sym c.is_table.ensures ∙ c.if-not-is_table.false in
     by_refusal a.self _ _ NoSuchCaller c.refused-then-caller-gt15.ensures
-    (no_caller (view a.self) a.caller a.voters a.target table c.if-caller-gt15.true)
+    (no_caller (view a.self) a.caller a.voters a.target table (omega arith))
 
 pub returns-in_default : goal.returns-in_default
 returns-in_default c =
@@ -33,7 +33,7 @@ returns-in_default c =
     let s = a.self in
     let table = sym c.is_table.ensures ∙ c.if-not-is_table.false in
     by_refusal s _ _ NotLeading c.refused-in_default.ensures
-    (no_leader (view s) a.caller a.voters a.target table c.if-caller-gt15.false
+    (no_leader (view s) a.caller a.voters a.target table (omega arith)
     (none_called s.clocks s.records s.count s.log s.length table a.caller c.last_called-head.result c.last_called-head.ensures c.in_default.is))
 
 pub returns-then-h-clocks : goal.returns-then-h-clocks
@@ -43,7 +43,7 @@ returns-then-h-clocks c =
     let table = sym c.is_table.ensures ∙ c.if-not-is_table.false in
     let head = c.in-At in
     by_refusal s _ _ NotLeading c.refused-then-h-clocks.ensures
-    (no_leader (view s) a.caller a.voters a.target table c.if-caller-gt15.false
+    (no_leader (view s) a.caller a.voters a.target table (omega arith)
     (head_leads s.clocks s.records s.count s.log s.length table a.caller c.last_called-head.result c.last_called-head.ensures head.field-0 head.h head.is
     ∙ ne_eqb _ _ c.if-h-clocks.true))
 
@@ -58,7 +58,7 @@ returns-then-place-self c =
     head_leads s.clocks s.records s.count s.log s.length table a.caller c.last_called-head.result c.last_called-head.ensures head.field-0 head.h head.is
     ∙ eq-eqb _ _ c.if-h-clocks.false in
     by_refusal s _ _ BadTarget c.refused-then-place-self.ensures
-    (no_target (view s) a.caller a.voters a.target table c.if-caller-gt15.false leader
+    (no_target (view s) a.caller a.voters a.target table (omega arith) leader
     (past_the_last s.clocks s.records s.count s.log s.length table whole a.caller a.target c.if-place-self.true))
 
 pub bounds-records-place : goal.bounds-records-place
@@ -78,7 +78,7 @@ returns-then-not-is_target c =
     head_leads s.clocks s.records s.count s.log s.length table a.caller c.last_called-head.result c.last_called-head.ensures head.field-0 head.h head.is
     ∙ eq-eqb _ _ c.if-h-clocks.false in
     by_refusal s _ _ BadTarget c.refused-then-not-is_target.ensures
-    (no_target (view s) a.caller a.voters a.target table c.if-caller-gt15.false leader
+    (no_target (view s) a.caller a.voters a.target table (omega arith) leader
     (not_aimed s.clocks s.records s.count s.log s.length table whole a.caller a.target c.if-place-self.false
     ∙ ap not (sym c.is_target.ensures ∙ c.if-not-is_target.true)))
 
@@ -99,7 +99,7 @@ returns c =
     head_leads s.clocks s.records s.count s.log s.length table a.caller c.last_called-head.result c.last_called-head.ensures head.field-0 head.h head.is
     ∙ eq-eqb _ _ c.if-h-clocks.false in
     by_same s _ _ _
-    (pushed_on_lem (view s) a.caller a.voters a.target table c.if-caller-gt15.false leader
+    (pushed_on_lem (view s) a.caller a.voters a.target table (omega arith) leader
     (not_aimed s.clocks s.records s.count s.log s.length table whole a.caller a.target c.if-place-self.false
     ∙ ap not (sym c.is_target.ensures ∙ c.if-not-is_target.false))
     ∙ ap (λ (t : Record). pushed_on (view s) t a.caller a.voters a.target)

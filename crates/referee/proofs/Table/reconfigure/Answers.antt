@@ -26,14 +26,14 @@ returns-then-caller-gt15 c =
     let s = c.args in
     let t = s.self in
     by_refusal t _ c.refused-then-caller-gt15.result NoSuchCaller c.refused-then-caller-gt15.ensures
-    (reconfigure_2 (view t) s.caller s.new (sym c.is_table.ensures ∙ c.if-not-is_table.false) (lt-ltb 15 s.caller c.if-caller-gt15.true))
+    (reconfigure_2 (view t) s.caller s.new (sym c.is_table.ensures ∙ c.if-not-is_table.false) (lt-ltb 15 s.caller (omega arith)))
 
 pub returns-then-new-eq0 : goal.returns-then-new-eq0
 returns-then-new-eq0 c =
     let s = c.args in
     let t = s.self in
     by_refusal t _ c.refused-then-new-eq0.result EmptySet c.refused-then-new-eq0.ensures
-    (reconfigure_1 (view t) s.caller s.new (sym c.is_table.ensures ∙ c.if-not-is_table.false) (le-ltb 15 s.caller c.if-caller-gt15.false) (eq-eqb s.new 0 c.if-new-eq0.true))
+    (reconfigure_1 (view t) s.caller s.new (sym c.is_table.ensures ∙ c.if-not-is_table.false) (le-ltb 15 s.caller (omega arith)) (eq-eqb s.new 0 c.if-new-eq0.true))
 
 pub returns-in_default : goal.returns-in_default
 returns-in_default c =
@@ -42,7 +42,7 @@ returns-in_default c =
     let table = sym c.is_table.ensures ∙ c.if-not-is_table.false in
     let found = ap (λ rs. last_called rs s.caller) (records_is t.clocks t.records t.count t.log t.length table) ∙ sym c.last_called-head.ensures ∙ c.in_default.is in
     by_refusal t _ c.refused-in_default.result NotLeading c.refused-in_default.ensures
-    (reconfigure_6 (view t) s.caller s.new table (le-ltb 15 s.caller c.if-caller-gt15.false) (ne_eqb s.new 0 c.if-new-eq0.false) (leads_none (view t).clocks (view t).records s.caller found))
+    (reconfigure_6 (view t) s.caller s.new table (le-ltb 15 s.caller (omega arith)) (ne_eqb s.new 0 c.if-new-eq0.false) (leads_none (view t).clocks (view t).records s.caller found))
 
 pub returns-then-h-clocks : goal.returns-then-h-clocks
 returns-then-h-clocks c =
@@ -53,7 +53,7 @@ returns-then-h-clocks c =
     let h = c.in-At in
     let leads' = leads_by (view t).clocks (view t).records s.caller h.i h.h found ∙ ap (λ k. eqb h.h.time (clock k s.caller)) (clocks_is t.clocks t.records t.count t.log t.length) ∙ ne_eqb _ _ c.if-h-clocks.true in
     by_refusal t _ c.refused-then-h-clocks.result NotLeading c.refused-then-h-clocks.ensures
-    (reconfigure_6 (view t) s.caller s.new table (le-ltb 15 s.caller c.if-caller-gt15.false) (ne_eqb s.new 0 c.if-new-eq0.false) leads')
+    (reconfigure_6 (view t) s.caller s.new table (le-ltb 15 s.caller (omega arith)) (ne_eqb s.new 0 c.if-new-eq0.false) leads')
 
 pub change-requires-clause-head_known : goal.change-requires-clause-head_known
 change-requires-clause-head_known c =
@@ -72,4 +72,4 @@ returns c =
     let found = ap (λ rs. last_called rs s.caller) (records_is t.clocks t.records t.count t.log t.length table) ∙ sym c.last_called-head.ensures ∙ c.in-At.is in
     let h = c.in-At in
     let leads' = leads_by (view t).clocks (view t).records s.caller h.i h.h found ∙ ap (λ k. eqb h.h.time (clock k s.caller)) (clocks_is t.clocks t.records t.count t.log t.length) ∙ eq-eqb _ _ c.if-h-clocks.false in
-    rw (reconfigure_rest (view t) s.caller s.new h.i h.h table (le-ltb 15 s.caller c.if-caller-gt15.false) (ne_eqb s.new 0 c.if-new-eq0.false) leads' found) c.change.ensures
+    rw (reconfigure_rest (view t) s.caller s.new h.i h.h table (le-ltb 15 s.caller (omega arith)) (ne_eqb s.new 0 c.if-new-eq0.false) leads' found) c.change.ensures
