@@ -4,20 +4,19 @@ use Prim.Native.Nat.{ℕ, zero, suc, ◌+◌, ◌≤◌, ◌<◌}
 use native.Mathlib.Nat.{not-suc-le-zero}
 use native.Mathlib.Decide.{ℕ_discrete}
 use native.Mathlib.Omega.{arith}
-use mathlib.Core.Path.{◌≡◌, refl, sym, ap, ap₂, subst, ◌∙◌}
-use mathlib.Core.Logic.{⊎_elim}
-use mathlib.Core.Bool.{Bool, true, false, cond, not, ◌&&◌, ◌||◌}
+use mathlib.Core.Path.{◌≡◌, refl, sym, ap, ap₂, ◌∙◌}
+use mathlib.Core.Bool.{Bool, true, false, cond, ◌&&◌, ◌||◌}
 use mathlib.Core.List.{List, [], ◌∷◌}
 use borrow.Author.Tests.{eq-eqb, ne_eqb}
 use lib.Dec.{eqb}
 use lib.ListN.{length, take}
 use lib.Seq.{get_or-take}
 use Rattle.rules.specs.declared.Record.{Record}
-use Rattle.rules.specs.First.{count, every}
+use Rattle.rules.specs.First.{count}
 use Rattle.rules.specs.Records.{blank, at, is_commit}
 use Rattle.rules.specs.Tree.{path_of, path, among, on_path, latest_commit}
 use Rattle.rules.specs.State.{one_branch}
-use Rattle.rules.proofs.Bools.{tested, or_right, or_left, and_false_right, or_nothing}
+use Rattle.rules.proofs.Bools.{or_right, or_left, and_false_right}
 use Rattle.rules.proofs.First.{one, count_same, count_none, count_within, some_false}
 use Rattle.rules.proofs.Latest.{latest_commit_known}
 use Rattle.rules.proofs.Paths.{Rising, Once, path_once, path_known}

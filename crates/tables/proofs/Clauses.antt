@@ -1,11 +1,10 @@
 -- The clauses of a table, as the loops meet them: what one record more adds.
-use Prim.Native.Nat.{ℕ, ◌+◌, ◌≤◌, ◌<◌, min}
-use native.Mathlib.Omega.{arith}
-use mathlib.Core.Path.{◌≡◌, refl, sym, ap, ◌∙◌}
+use Prim.Native.Nat.{ℕ, ◌+◌, ◌≤◌, ◌<◌}
+use mathlib.Core.Path.{◌≡◌, sym, ap, ◌∙◌}
 use mathlib.Core.Logic.{◌⊎◌, ⊎_elim}
 use mathlib.Core.Bool.{Bool, true, false, not, ◌&&◌, ◌||◌}
 use mathlib.Core.List.{List}
-use borrow.Author.Tests.{ltb-true, lt-leb}
+use borrow.Author.Tests.{ltb-true, lt-leb, le-leb}
 use lib.Dec.{ltb, leb, eqb}
 use lib.ListN.{length, take}
 use Rattle.rules.specs.declared.Record.{Record}
@@ -14,8 +13,8 @@ use Rattle.rules.specs.Records.{at, is_commit, above, holds, called}
 use Rattle.rules.specs.First.{every}
 use Rattle.rules.specs.Clocks.{clock}
 use Rattle.rules.specs.State.{shaped, timely}
-use Rattle.rules.proofs.Bools.{tested}
-use Rattle.rules.proofs.First.{every_not}
+use Rattle.rules.proofs.Bools.{tested, or_left, or_right}
+use Rattle.rules.proofs.First.{every_not, every_more}
 use Rattle.records.specs.Used.{used}
 use Rattle.tables.specs.Table.{shaped_by, concerns}
 use Rattle.records.proofs.Places.{used_length, used_at}
@@ -57,3 +56,14 @@ early_one clocks i r node l late e = every_not (early clocks i r) 16 node l (rw 
 pub early_none : (clocks : List ℕ) (i : ℕ) (r : Record) (n : ℕ) → n ≡ 16 → every (early clocks i r) n ≡ true → timely clocks i r ≡ true
 unfolding timely nodes
 early_none clocks i r n e all = ap (every (early clocks i r)) (sym e) ∙ all
+
+-- the loop goes on past a node that the record does not concern, or whose clock is not behind it
+pub early_apart : (clocks : List ℕ) (i : ℕ) (r : Record) (n : ℕ) → every (early clocks i r) n ≡ true → concerns i r n ≡ false
+    → every (early clocks i r) (n + 1) ≡ true
+unfolding concerns
+early_apart clocks i r n all e = every_more (early clocks i r) n all (or_left (leb r.time (clock clocks n)) (ap not e))
+
+pub early_reached : (clocks : List ℕ) (i : ℕ) (r : Record) (n : ℕ) → every (early clocks i r) n ≡ true → r.time ≤ clock clocks n
+    → every (early clocks i r) (n + 1) ≡ true
+early_reached clocks i r n all l =
+    every_more (early clocks i r) n all (or_right (not (holds i r n || called r n)) (le-leb r.time (clock clocks n) l))

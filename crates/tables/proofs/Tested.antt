@@ -1,22 +1,22 @@
 -- The test for a table, of the arrays: out of range there is no table, and in range the clauses are those of the records in use.
-use Prim.Native.Nat.{ℕ, zero, suc, ◌≤◌, ◌<◌}
+use Prim.Native.Nat.{ℕ, ◌≤◌, ◌<◌}
 use native.Mathlib.Omega.{arith}
 use native.Mathlib.Decide.{ℕ_discrete}
-use mathlib.Core.Path.{◌≡◌, refl, sym, ap, ap₂, ◌∙◌}
+use mathlib.Core.Path.{◌≡◌, refl, sym, ap, ◌∙◌}
 use mathlib.Core.Logic.{◌⊎◌, ⊎_elim}
 use mathlib.Core.Bool.{Bool, true, false, cond, ◌&&◌}
-use mathlib.Core.List.{List, [], ◌∷◌, reverse}
+use mathlib.Core.List.{List, [], reverse}
 use borrow.Author.Tests.{le-leb, lt-leb, lt-ltb, leb-true, leb-false, ne_eqb}
-use lib.Dec.{ltb, leb, eqb}
+use lib.Dec.{leb, eqb}
 use lib.ListN.{length, take}
 use lib.Seq.{length-take-le, get_or-take}
 use Rattle.rules.specs.declared.Record.{Record}
 use Rattle.rules.specs.Records.{blank, at}
-use Rattle.rules.specs.Tree.{path_of, path, latest_commit}
+use Rattle.rules.specs.Tree.{path_of, latest_commit}
 use Rattle.rules.specs.State.{State, places, entries, log_of, counted, rooted, is_opening, all_shaped, all_timely, one_branch, same, logged, is_table}
 use Rattle.rules.proofs.Bools.{tested, and_false_right}
 use Rattle.rules.proofs.Latest.{latest_commit_known}
-use Rattle.rules.proofs.Paths.{Rising, rising}
+use Rattle.rules.proofs.Paths.{rising}
 use Rattle.records.specs.Used.{shown}
 use Rattle.tables.specs.Table.{commits_in, commits_along}
 use Rattle.paths.proofs.Shown.{log_shown}

@@ -95,6 +95,7 @@ fn concerns(i: usize, r: Record, node: usize) -> bool
 }
 
 // Is no clock of a node that holds or called the record less than its time?
+#[tactic(auto, using(crate::proofs::Clauses::early_one, crate::proofs::Clauses::early_none, crate::proofs::Clauses::early_apart, crate::proofs::Clauses::early_reached))]
 fn timely(clocks: [u32; 16], i: usize, r: Record) -> bool
     ensures { result ≡ timely clocks i r }
 {
@@ -110,7 +111,7 @@ fn timely(clocks: [u32; 16], i: usize, r: Record) -> bool
 }
 
 // Is that so of every record?
-#[tactic(auto, using(records::proofs::Places::used_small, records::proofs::Places::used_at, records::proofs::Places::used_length, rules::proofs::First::every_more, rules::proofs::First::every_not, rules::proofs::First::every_less), unfolding(rules::specs::State::all_timely))]
+#[tactic(auto, using(records::proofs::Places::used_small, records::proofs::Places::used_at, rules::proofs::First::every_more))]
 fn all_timely(clocks: [u32; 16], records: [Record; 256], count: usize) -> bool
     ensures { result ≡ all_timely clocks (take count records) }
 {
@@ -127,7 +128,7 @@ fn all_timely(clocks: [u32; 16], records: [Record; 256], count: usize) -> bool
 }
 
 // How many commits are there?
-#[tactic(auto, using(records::proofs::Places::used_small, records::proofs::Places::used_at, records::proofs::Places::used_length), unfolding(crate::specs::Table::commits_in))]
+#[tactic(auto, using(records::proofs::Places::used_small, rules::proofs::First::count_le))]
 fn commits_in(records: [Record; 256], count: usize) -> usize
     ensures { result ≡ commits_in (take count records) }
 {
@@ -167,7 +168,7 @@ fn commits_along(records: [Record; 256], steps: usize, i: u8) -> usize
 }
 
 // Is the log the commands and changes on the path of record i, oldest first? It is read backwards on the way up.
-#[tactic(auto, using(records::proofs::Places::used_small, crate::proofs::Matching::match_used, crate::proofs::Matching::read_over, crate::proofs::Matching::read_other, crate::proofs::Matching::read_entry, crate::proofs::Matching::read_past, crate::proofs::Matching::further_up))]
+#[tactic(auto, using(records::proofs::Places::used_small, crate::proofs::Matching::match_used, crate::proofs::Matching::match_none, crate::proofs::Matching::listed_none, crate::proofs::Matching::further_root, crate::proofs::Matching::read_over, crate::proofs::Matching::read_other, crate::proofs::Matching::read_entry, crate::proofs::Matching::read_past, crate::proofs::Matching::further_up))]
 fn log_along(log: [u32; 256], length: usize, records: [Record; 256], steps: usize, i: u8) -> bool
     ensures { result ≡ same (take length log) (reverse (entries records (path_of records steps i))) }
 {

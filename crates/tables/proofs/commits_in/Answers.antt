@@ -6,19 +6,14 @@ use mathlib.Core.Path.{◌≡◌, sym, ap, ◌∙◌}
 use borrow.Author.Rules.{rules}
 use lib.ListN.{length, take}
 use Rattle.rules.specs.First.{count}
-use Rattle.rules.specs.Records.{at, is_commit}
-use Rattle.rules.proofs.First.{one, count_le}
+use Rattle.rules.specs.Records.{is_commit}
+use Rattle.rules.proofs.First.{one}
 use Rattle.records.specs.Used.{used}
 use Rattle.tables.specs.Table.{commits_in}
-use Rattle.records.proofs.Places.{used_small, used_length, used_at}
+use Rattle.records.proofs.Places.{used_length, used_at}
 use Rattle.tables.proofs.Clauses.{commits}
 use Rattle.tables.proofs.commits_in.Goals as goal
 use Rattle.tables.proofs.commits_in.Goals.{then-is_commit, else-is_commit}
-
-pub overflow_add-met : goal.overflow_add-met
-overflow_add-met c =
-    let s = c.args in
-    omega (arith, used_small s.count, c.used-n.ensures, count_le (commits s.count s.records) c.loop-i.i)
 
 pub loop-i-preserved : goal.loop-i-preserved
 loop-i-preserved c =
