@@ -106,6 +106,7 @@ pub fn later(best: Found, i: u8, r: Record) -> Found
 }
 
 // How many of the 256 places are in use.
+#[tactic(auto, using(crate::proofs::Places::used_is))]
 pub fn used(count: usize) -> usize
     ensures { result ≡ used count }
 {
