@@ -10,7 +10,7 @@ use Rattle.rules.specs.Records.{at}
 use Rattle.rules.specs.Tree.{later, latest_of, latest}
 use Rattle.rules.proofs.Latest.{latest_wanted, latest_passed}
 use Rattle.records.specs.Used.{used}
-use Rattle.records.proofs.Places.{used_length, used_at}
+use Rattle.records.proofs.Places.{used_small, used_length, used_at}
 
 module _ (wanted : ℕ → Record → Bool) (records : List Record) (count : ℕ) where
   abbrev pub found : ℕ → Found
@@ -32,3 +32,6 @@ module _ (wanted : ℕ → Record → Bool) (records : List Record) (count : ℕ
       → best ≡ latest wanted (take count records)
   unfolding latest
   found_all i best full done e = e ∙ ap found (done ∙ sym (used_length records count full))
+
+-- what each search needs of the places in use and of its steps
+pub ruleset steps = (used_small, found_more, found_same, found_all)

@@ -19,7 +19,7 @@ pub fn number_of(found: Found) -> u8
 }
 
 // The latest record held by any voter.
-#[tactic(auto, using(records::proofs::Places::used_small, crate::proofs::Searched::found_more, crate::proofs::Searched::found_same, crate::proofs::Searched::found_all, rules::proofs::Held::held_by_one, rules::proofs::Held::held_by_none), unfolding(rules::specs::Tree::base))]
+#[tactic(auto, using(crate::proofs::Searched::steps, rules::proofs::Held::held_by_one, rules::proofs::Held::held_by_none), unfolding(rules::specs::Tree::base))]
 pub fn base(records: [Record; 256], count: usize, voters: u16) -> Found
     ensures { result ≡ base (take count records) voters }
 {
@@ -43,7 +43,7 @@ pub fn base(records: [Record; 256], count: usize, voters: u16) -> Found
 }
 
 // The latest record that the node called.
-#[tactic(auto, using(records::proofs::Places::used_small, crate::proofs::Searched::found_more, crate::proofs::Searched::found_same, crate::proofs::Searched::found_all), unfolding(rules::specs::Tree::last_called))]
+#[tactic(auto, using(crate::proofs::Searched::steps), unfolding(rules::specs::Tree::last_called))]
 pub fn last_called(records: [Record; 256], count: usize, node: usize) -> Found
     ensures { result ≡ last_called (take count records) node }
 {
@@ -61,7 +61,7 @@ pub fn last_called(records: [Record; 256], count: usize, node: usize) -> Found
 }
 
 // The latest commit.
-#[tactic(auto, using(records::proofs::Places::used_small, crate::proofs::Searched::found_more, crate::proofs::Searched::found_same, crate::proofs::Searched::found_all), unfolding(rules::specs::Tree::last_commit))]
+#[tactic(auto, using(crate::proofs::Searched::steps), unfolding(rules::specs::Tree::last_commit))]
 pub fn last_commit(records: [Record; 256], count: usize) -> Found
     ensures { result ≡ last_commit (take count records) }
 {

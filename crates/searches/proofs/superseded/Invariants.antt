@@ -9,7 +9,7 @@ use Rattle.rules.specs.Proposals.{supersedes}
 use Rattle.searches.proofs.superseded.Given as goal
 
 abbrev pub invariant-loop-i : goal.invariant-loop-i
-invariant-loop-i l = (l.i ≤ l.n) × (some (λ i. supersedes (at (take l.count l.records) i) l.caller l.t) l.i ≡ false)
+invariant-loop-i l = (l.i ≤ l.n) × (some (λ i. supersedes (at (take l.count l.records) i) l.fn.caller l.fn.t) l.i ≡ false)
 
 abbrev pub decreases-loop-i : goal.decreases-loop-i
 decreases-loop-i l = l.n - l.i
