@@ -1,10 +1,17 @@
 -- Refusals 16, 2, 6 and 7, each by the test that led there; what is left is push_on's.
 use native.Mathlib.Omega.{arith}
 use mathlib.Core.Path.{◌≡◌, sym, ap, ◌∙◌}
-use mathlib.Core.Bool.{not}
+use mathlib.Core.Bool.{not, true}
 use borrow.Author.Tests.{eq-eqb, ne_eqb}
-use lib.ListN.{length}
+use lib.ListN.{length, take}
+use Prim.Native.Nat.{ℕ}
 use Rattle.rules.specs.declared.Record.{Record}
+use Rattle.rules.specs.declared.Found.{Found}
+use Rattle.rules.specs.declared.Found.TheVariants.{At}
+use Rattle.rules.specs.Clocks.{clock}
+use Rattle.rules.specs.Tree.{last_called, leads}
+use Rattle.rules.specs.State.{is_table}
+use Rattle.referee.specs.declared.Table.{Table}
 use Rattle.rules.specs.declared.Refusal.TheVariants.{NoSuchCaller, NotLeading, BadTarget, NoTable}
 use Rattle.referee.specs.View.{view}
 use Rattle.referee.specs.Rest.{pushed_on}
@@ -13,6 +20,12 @@ use Rattle.referee.proofs.Owed.{by_refusal, by_same}
 use Rattle.referee.proofs.Targets.{no_table, no_caller, no_leader, no_target, pushed_on_lem, none_called, head_leads, past_the_last, target_is, not_aimed}
 use borrow.Author.Rules.{rules}
 use Rattle.referee.proofs.Table.push.Goals as goal
+
+-- a caller whose head has its clock's time leads
+led : (s : Table) → is_table (view s) ≡ true → (caller : ℕ) (f : Found) → f ≡ last_called (take s.count s.records) caller
+    → (i : ℕ) (h : Record) → f ≡ At i h → h.time ≡ clock s.clocks caller → leads (view s).clocks (view s).records caller ≡ true
+led s table caller f found i h e same =
+    head_leads s.clocks s.records s.count s.log s.length table caller f found i h e ∙ eq-eqb _ _ same
 
 pub returns-then-not-is_table : goal.returns-then-not-is_table
 returns-then-not-is_table c =
@@ -54,9 +67,7 @@ returns-then-place-self c =
     let table = sym c.is_table.ensures ∙ c.if-not-is_table.false in
     let whole : length s.records ≡ 256 = search rules in
     let head = c.in-At in
-    let leader =
-    head_leads s.clocks s.records s.count s.log s.length table a.caller c.last_called-head.result c.last_called-head.ensures head.field-0 head.h head.is
-    ∙ eq-eqb _ _ c.if-h-clocks.false in
+    let leader = led s table a.caller c.last_called-head.result c.last_called-head.ensures head.field-0 head.h head.is c.if-h-clocks.false in
     by_refusal s _ _ BadTarget c.refused-then-place-self.ensures
     (no_target (view s) a.caller a.voters a.target table (omega arith) leader
     (past_the_last s.clocks s.records s.count s.log s.length table whole a.caller a.target c.if-place-self.true))
@@ -74,9 +85,7 @@ returns-then-not-is_target c =
     let table = sym c.is_table.ensures ∙ c.if-not-is_table.false in
     let whole : length s.records ≡ 256 = search rules in
     let head = c.in-At in
-    let leader =
-    head_leads s.clocks s.records s.count s.log s.length table a.caller c.last_called-head.result c.last_called-head.ensures head.field-0 head.h head.is
-    ∙ eq-eqb _ _ c.if-h-clocks.false in
+    let leader = led s table a.caller c.last_called-head.result c.last_called-head.ensures head.field-0 head.h head.is c.if-h-clocks.false in
     by_refusal s _ _ BadTarget c.refused-then-not-is_target.ensures
     (no_target (view s) a.caller a.voters a.target table (omega arith) leader
     (not_aimed s.clocks s.records s.count s.log s.length table whole a.caller a.target c.if-place-self.false
@@ -95,9 +104,7 @@ returns c =
     let table = sym c.is_table.ensures ∙ c.if-not-is_table.false in
     let whole : length s.records ≡ 256 = search rules in
     let head = c.in-At in
-    let leader =
-    head_leads s.clocks s.records s.count s.log s.length table a.caller c.last_called-head.result c.last_called-head.ensures head.field-0 head.h head.is
-    ∙ eq-eqb _ _ c.if-h-clocks.false in
+    let leader = led s table a.caller c.last_called-head.result c.last_called-head.ensures head.field-0 head.h head.is c.if-h-clocks.false in
     by_same s _ _ _
     (pushed_on_lem (view s) a.caller a.voters a.target table (omega arith) leader
     (not_aimed s.clocks s.records s.count s.log s.length table whole a.caller a.target c.if-place-self.false
