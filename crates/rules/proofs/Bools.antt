@@ -1,7 +1,7 @@
 -- Tests: what a conjunction, a disjunction or a choice says once its value is known.
 use mathlib.Core.Path.{◌≡◌, refl}
 use mathlib.Core.Logic.{◌⊎◌, inl, inr}
-use mathlib.Core.Bool.{Bool, true, false, cond, not, ◌&&◌, ◌||◌, true≢false, false≢true}
+use mathlib.Core.Bool.{Bool, true, false, not, ◌&&◌, ◌||◌, true≢false, false≢true}
 
 -- a test passes or fails
 pub tested : (b : Bool) → (b ≡ true) ⊎ (b ≡ false)

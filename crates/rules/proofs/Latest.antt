@@ -4,20 +4,19 @@ use native.Mathlib.Nat.{not-suc-le-zero}
 use native.Mathlib.Numerals.{add-one}
 use native.Mathlib.Omega.{arith}
 use mathlib.Core.Path.{◌≡◌, refl, sym, ap, subst, ◌∙◌}
-use mathlib.Core.Logic.{◌⊎◌, inl, inr, ⊎_elim}
+use mathlib.Core.Logic.{⊎_elim}
 use mathlib.Core.Bool.{Bool, true, false, cond}
 use mathlib.Core.List.{List}
 use borrow.Author.Tests.{ltb-true, ltb-false}
 use lib.Dec.{ltb}
 use lib.ListN.{length}
 use Rattle.rules.specs.declared.Record.{Record}
-use Rattle.rules.specs.declared.Found.{Found}
-use Rattle.rules.specs.declared.Found.TheVariants.{At, Nothing}
+use Rattle.std.specs.Prelude.{Option, Some, None}
 use Rattle.rules.specs.Records.{at, is_commit, above}
 use Rattle.rules.specs.Tree.{later, latest_of, latest, number_of, last_commit, latest_commit}
 use Rattle.rules.proofs.Bools.{tested, torn}
 use Rattle.rules.proofs.First.{below_suc}
-use Rattle.rules.proofs.Records.{above_irreflexive, above_asymmetric, above_trans, not_above_trans}
+use Rattle.rules.proofs.Records.{above_irreflexive, above_asymmetric, above_trans}
 
 -- r is record i, wanted, and the latest of the wanted among the first n; those of a lower number are strictly below it
 pub record Latest (wanted : ℕ → Record → Bool) (records : List Record) (n i : ℕ) (r : Record) : Type 0 where
@@ -28,9 +27,9 @@ pub record Latest (wanted : ℕ → Record → Bool) (records : List Record) (n 
   pub lowest : (j : ℕ) → j < i → wanted j (at records j) ≡ true → above r (at records j) ≡ true
 
 -- what a search among the first n says by its answer
-abbrev pub Right : (ℕ → Record → Bool) → List Record → ℕ → Found → Type 0
-Right wanted records n (At i r) = Latest wanted records n i r
-Right wanted records n Nothing = (j : ℕ) → j < n → wanted j (at records j) ≡ false
+abbrev pub Right : (ℕ → Record → Bool) → List Record → ℕ → Option (ℕ × Record) → Type 0
+Right wanted records n (Some (i, r)) = Latest wanted records n i r
+Right wanted records n None = (j : ℕ) → j < n → wanted j (at records j) ≡ false
 
 module _ (wanted : ℕ → Record → Bool) (records : List Record) (n : ℕ) where
   abbrev new : Record
@@ -78,16 +77,16 @@ module _ (wanted : ℕ → Record → Bool) (records : List Record) (n : ℕ) wh
       }
 
   compared : (i : ℕ) (r : Record) → Latest wanted records n i r → wanted n new ≡ true → (c : Bool) → above new r ≡ c
-      → Right wanted records (suc n) (cond c (At n new) (At i r))
+      → Right wanted records (suc n) (cond c (Some (n, new)) (Some (i, r)))
   compared i r old w true e = replaced i r old w e
   compared i r old w false e = kept i r old (λ v. e)
 
-  grown : (f : Found) → Right wanted records n f → (b : Bool) → wanted n new ≡ b
+  grown : (f : Option (ℕ × Record)) → Right wanted records n f → (b : Bool) → wanted n new ≡ b
       → Right wanted records (suc n) (cond b (later f n new) f)
-  grown Nothing right true e = first right e
-  grown Nothing right false e = below_suc (λ (j : ℕ). wanted j (at records j) ≡ false) n right e
-  grown (At i r) right true e = compared i r right e (above new r) refl
-  grown (At i r) right false e = kept i r right (λ v. absurd (torn v e))
+  grown None right true e = first right e
+  grown None right false e = below_suc (λ (j : ℕ). wanted j (at records j) ≡ false) n right e
+  grown (Some (i, r)) right true e = compared i r right e (above new r) refl
+  grown (Some (i, r)) right false e = kept i r right (λ v. absurd (torn v e))
 
 -- a search among the first n answers right
 pub searched : (wanted : ℕ → Record → Bool) (records : List Record) (n : ℕ) → Right wanted records n (latest_of wanted records n)
@@ -118,15 +117,15 @@ latest_one {wanted} {records} {n} {i} {j} {r} {q} a b =
 
 -- what is the latest is found, and nothing else
 pub latest_found : {wanted : ℕ → Record → Bool} {records : List Record} {i : ℕ} {r : Record}
-    → Latest wanted records (length records) i r → latest wanted records ≡ At i r
+    → Latest wanted records (length records) i r → latest wanted records ≡ Some (i, r)
 latest_found {wanted} {records} {i} {r} a = go (latest wanted records) refl (latest_right wanted records)
   where
-    go : (f : Found) → latest wanted records ≡ f → Right wanted records (length records) f → latest wanted records ≡ At i r
-    go Nothing e none =
+    go : (f : Option (ℕ × Record)) → latest wanted records ≡ f → Right wanted records (length records) f → latest wanted records ≡ Some (i, r)
+    go None e none =
         absurd (torn (subst (λ (x : Record). wanted i x ≡ true) a.there a.wants) (none i a.among))
-    go (At j q) e b = let k : j ≡ i = latest_one b a in e ∙ same k (b.there ∙ ap (λ (x : ℕ). at records x) k ∙ sym a.there)
+    go (Some (j, q)) e b = let k : j ≡ i = latest_one b a in e ∙ same k (b.there ∙ ap (λ (x : ℕ). at records x) k ∙ sym a.there)
       where
-        same : j ≡ i → q ≡ r → At j q ≡ At i r
+        same : j ≡ i → q ≡ r → ◌≡◌ {A = Option (ℕ × Record)} (Some (j, q)) (Some (i, r))
         same p s = cc
 
 -- one record more, as a loop counts
@@ -143,9 +142,9 @@ pub latest_known : (wanted : ℕ → Record → Bool) (records : List Record) �
     → number_of (latest wanted records) < length records
 latest_known wanted records l = known (latest wanted records) (latest_right wanted records)
   where
-    known : (f : Found) → Right wanted records (length records) f → number_of f < length records
-    known (At i r) right = right.among
-    known Nothing right = l
+    known : (f : Option (ℕ × Record)) → Right wanted records (length records) f → number_of f < length records
+    known (Some (i, r)) right = right.among
+    known None right = l
 
 pub latest_commit_known : (records : List Record) → 0 < length records → latest_commit records < length records
 unfolding latest_commit last_commit

@@ -1,12 +1,12 @@
 -- Sets of nodes: majorities of equal sets, and of sets one step apart, share a node.
 -- Counted node by node: twice the nodes of S in C and of S' in D are at most twice those in both S and S', those of C, those of D and those
 -- in which C and D differ.
-use Prim.Native.Nat.{ℕ, zero, suc, ◌+◌, ◌*◌, ◌≤◌, ◌<◌, min, max, ◌-◌}
+use Prim.Native.Nat.{ℕ, zero, suc, ◌+◌, ◌*◌, ◌≤◌, ◌<◌, min}
 use native.Mathlib.Omega.{arith}
-use mathlib.Core.Path.{◌≡◌, refl, ap}
+use mathlib.Core.Path.{◌≡◌, refl}
 use mathlib.Core.Bool.{Bool, true, false, ◌&&◌, xor}
 use borrow.Author.Tests.{ltb-true, eqb-true}
-use lib.Dec.{ltb, eqb}
+use lib.Dec.{ltb}
 use Rattle.rules.specs.First.{count}
 use Rattle.rules.specs.Nodes.{nodes, has, size, shared, differing, majority, one_step}
 use Rattle.rules.proofs.Bools.{and_left, and_right}

@@ -5,8 +5,7 @@ use mathlib.Core.Bool.{Bool, true, ◌&&◌, false≢true}
 use mathlib.Core.List.{List}
 use lib.ListN.{length}
 use Rattle.rules.specs.declared.Record.{Record}
-use Rattle.rules.specs.declared.Found.{Found}
-use Rattle.rules.specs.declared.Found.TheVariants.{At, Nothing}
+use Rattle.std.specs.Prelude.{Option, Some, None}
 use Rattle.rules.specs.Nodes.{nodes, has}
 use Rattle.rules.specs.Clocks.{clock}
 use Rattle.rules.specs.Records.{at, is_commit, holds, called}
@@ -26,18 +25,18 @@ pub found_is : (wanted : ℕ → Record → Bool) (records : List Record)
     → record_of records (latest wanted records) ≡ at records (number_of (latest wanted records))
 found_is wanted records = go (latest wanted records) (latest_right wanted records)
   where
-    go : (f : Found) → Right wanted records (length records) f → record_of records f ≡ at records (number_of f)
-    go (At i r) right = right.there
-    go Nothing right = refl
+    go : (f : Option (ℕ × Record)) → Right wanted records (length records) f → record_of records f ≡ at records (number_of f)
+    go (Some (i, r)) right = right.there
+    go None right = refl
 
 -- where a record is wanted, what is found is the latest of the wanted
 pub found : (wanted : ℕ → Record → Bool) (records : List Record) (i : ℕ) → i < length records → wanted i (at records i) ≡ true
     → LatestAt wanted records (number_of (latest wanted records))
 found wanted records i l w = go (latest wanted records) (latest_right wanted records)
   where
-    go : (f : Found) → Right wanted records (length records) f → LatestAt wanted records (number_of f)
-    go (At j r) right = rw right.there at right
-    go Nothing right = absurd (torn w (right i l))
+    go : (f : Option (ℕ × Record)) → Right wanted records (length records) f → LatestAt wanted records (number_of f)
+    go (Some (j, r)) right = rw right.there at right
+    go None right = absurd (torn w (right i l))
 
 -- held by any voter: some voter holds it, and one that holds it is enough
 pub any_holds : (voters i : ℕ) (r : Record) → held_by_any voters i r ≡ true → (v : ℕ) × (has voters v ≡ true) × (holds i r v ≡ true)
@@ -72,10 +71,10 @@ unfolding leads last_called
 head_found clocks records node e =
     go (latest (λ i r. called r node) records) e (latest_right (λ i r. called r node) records)
   where
-    go : (f : Found) → leading (clock clocks node) f ≡ true → Right (λ i r. called r node) records (length records) f
+    go : (f : Option (ℕ × Record)) → leading (clock clocks node) f ≡ true → Right (λ i r. called r node) records (length records) f
         → LatestAt (λ i r. called r node) records (number_of f)
-    go (At i r) e right = rw right.there at right
-    go Nothing e right = absurd (false≢true e)
+    go (Some (i, r)) e right = rw right.there at right
+    go None e right = absurd (false≢true e)
 
 -- the latest commit, where record 0 is one
 pub commit_found : (records : List Record) → 0 < length records → is_commit (at records 0) ≡ true

@@ -1,5 +1,5 @@
 -- The eleven marked cases of document 01, of the definitions themselves: one table under one statement.
-use Rattle.std.specs.Prelude.{ℕ, ◌*◌, ◌/◌, ◌%◌, ◌^◌, ◌≡◌, refl, Bool, true, false, List, [], ◌∷◌, map}
+use Rattle.std.specs.Prelude.{ℕ, ◌≡◌, refl, Bool, true, false, List, [], ◌∷◌, map}
 use Rattle.std.proofs.Math.Bool.{xor}
 use Rattle.rules.specs.declared.Kind.{Kind}
 use Rattle.rules.specs.declared.Kind.TheVariants.{Election, Command, Commit}

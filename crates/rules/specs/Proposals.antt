@@ -7,9 +7,8 @@ use Rattle.rules.specs.declared.Refusal.{Refusal}
 use Rattle.rules.specs.declared.Refusal.TheVariants.{EmptySet, NoSuchCaller, CallerAbsent, Stranger, ClockPast, NotLeading, BadTarget, Superseded, NotNext, OpenChange, NoCommitYet, TableFull, VersionsOut, NoTable, OffBranch}
 use Rattle.rules.specs.declared.Answer.{Answer}
 use Rattle.rules.specs.declared.Answer.TheVariants.{Accepted, Short, Refused}
-use Rattle.rules.specs.declared.Found.{Found}
 use Rattle.rules.specs.First.{some}
-use Rattle.rules.specs.Nodes.{nodes, has, empty}
+use Rattle.rules.specs.Nodes.{has, empty}
 use Rattle.rules.specs.Scheme.{quorum, within, next}
 use Rattle.rules.specs.Clocks.{clock, moved, some_at_or_past, some_past}
 use Rattle.rules.specs.Records.{at, is_commit, is_entry, called}

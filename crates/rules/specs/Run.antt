@@ -1,5 +1,5 @@
 -- One proposal after another.
-use Rattle.std.specs.Prelude.{ℕ, List, [], ◌∷◌}
+use Rattle.std.specs.Prelude.{List, [], ◌∷◌}
 use Rattle.rules.specs.declared.Proposal.{Proposal}
 use Rattle.rules.specs.declared.Proposal.TheVariants.{Pull, Invoke, Reconfigure, Push}
 use Rattle.rules.specs.State.{State}

@@ -1,5 +1,5 @@
 -- What the referee holds, how it is opened, and which states are tables.
-use Rattle.std.specs.Prelude.{ℕ, zero, Bool, true, false, cond, not, ◌&&◌, ◌||◌, List, [], ◌∷◌, ◌++◌, reverse, ltb, leb, eqb, length, replicate}
+use Rattle.std.specs.Prelude.{ℕ, Bool, true, false, cond, not, ◌&&◌, ◌||◌, List, [], ◌∷◌, reverse, ltb, leb, eqb, length, replicate}
 use Rattle.rules.specs.declared.Kind.{Kind}
 use Rattle.rules.specs.declared.Kind.TheVariants.{Election, Command, Change, Commit}
 use Rattle.rules.specs.declared.Record.{Record}

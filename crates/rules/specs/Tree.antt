@@ -1,56 +1,54 @@
 -- The records as a tree: the latest of some, paths, who leads, an open change.
-use Rattle.std.specs.Prelude.{ℕ, zero, suc, Bool, true, false, cond, ◌&&◌, ◌||◌, List, [], ◌∷◌, eqb, length}
+use Rattle.std.specs.Prelude.{ℕ, zero, suc, Bool, true, false, cond, ◌&&◌, ◌||◌, List, [], ◌∷◌, Option, Some, None, eqb, length}
 use Rattle.rules.specs.declared.Kind.{Kind}
 use Rattle.rules.specs.declared.Kind.TheVariants.{Election, Command, Change, Commit}
 use Rattle.rules.specs.declared.Record.{Record}
-use Rattle.rules.specs.declared.Found.{Found}
-use Rattle.rules.specs.declared.Found.TheVariants.{At, Nothing}
 use Rattle.rules.specs.First.{some}
 use Rattle.rules.specs.Nodes.{nodes, has}
 use Rattle.rules.specs.Clocks.{clock}
 use Rattle.rules.specs.Records.{at, is_commit, above, holds, called}
 
 -- the later of what was found and record r with number i: of equal ones the lower number, which came first, stays
-abbrev pub later : Found → ℕ → Record → Found
-later Nothing i r = At i r
-later (At j best) i r = cond (above r best) (At i r) (At j best)
+abbrev pub later : Option (ℕ × Record) → ℕ → Record → Option (ℕ × Record)
+later None i r = Some (i, r)
+later (Some (j, best)) i r = cond (above r best) (Some (i, r)) (Some (j, best))
 
 -- the latest of the wanted among the first n records
-abbrev pub latest_of : (ℕ → Record → Bool) → List Record → ℕ → Found
-latest_of wanted records zero = Nothing
+abbrev pub latest_of : (ℕ → Record → Bool) → List Record → ℕ → Option (ℕ × Record)
+latest_of wanted records zero = None
 latest_of wanted records (suc n) =
     cond (wanted n (at records n))
     (later (latest_of wanted records n) n (at records n))
     (latest_of wanted records n)
 
 -- the latest of the wanted records
-unfoldable pub latest : (ℕ → Record → Bool) → List Record → Found
+unfoldable pub latest : (ℕ → Record → Bool) → List Record → Option (ℕ × Record)
 latest wanted records = latest_of wanted records (length records)
 
 -- the number of what was found; 0 where nothing was
-abbrev pub number_of : Found → ℕ
-number_of (At i r) = i
-number_of Nothing = 0
+abbrev pub number_of : Option (ℕ × Record) → ℕ
+number_of (Some (i, r)) = i
+number_of None = 0
 
 -- what was found; record 0 where nothing was
-abbrev pub record_of : List Record → Found → Record
-record_of records (At i r) = r
-record_of records Nothing = at records 0
+abbrev pub record_of : List Record → Option (ℕ × Record) → Record
+record_of records (Some (i, r)) = r
+record_of records None = at records 0
 
 -- some voter holds the record
 unfoldable pub held_by_any : ℕ → ℕ → Record → Bool
 held_by_any voters i r = some (λ node. has voters node && holds i r node) nodes
 
 -- the base of a pull: the latest record held by any voter
-unfoldable pub base : List Record → ℕ → Found
+unfoldable pub base : List Record → ℕ → Option (ℕ × Record)
 base records voters = latest (held_by_any voters) records
 
 -- the latest record that the node called
-unfoldable pub last_called : List Record → ℕ → Found
+unfoldable pub last_called : List Record → ℕ → Option (ℕ × Record)
 last_called records node = latest (λ i r. called r node) records
 
 -- the latest commit
-unfoldable pub last_commit : List Record → Found
+unfoldable pub last_commit : List Record → Option (ℕ × Record)
 last_commit records = latest (λ i r. is_commit r) records
 
 -- its number
@@ -77,9 +75,9 @@ unfoldable pub on_path : List Record → ℕ → ℕ → Bool
 on_path records a i = among a (path records i)
 
 -- the head answers by its time: the node leads when the latest record that it called has a time equal to its clock
-abbrev pub leading : ℕ → Found → Bool
-leading now (At i r) = eqb r.time now
-leading now Nothing = false
+abbrev pub leading : ℕ → Option (ℕ × Record) → Bool
+leading now (Some (i, r)) = eqb r.time now
+leading now None = false
 
 -- the node leads
 unfoldable pub leads : List ℕ → List Record → ℕ → Bool

@@ -2,7 +2,7 @@
 #![tactic(auto)]
 
 // Kind and data are one thing: a command has no voters, a commit has no command.
-#[derive(Clone, Copy)]
+#[derive(Clone, Copy, PartialEq, Eq)]
 pub enum Kind {
     Election { voters: u16 },
     Command { number: u32 },
@@ -11,7 +11,7 @@ pub enum Kind {
 }
 
 // One record of the table. For a change, `members` is the new set.
-#[derive(Clone, Copy)]
+#[derive(Clone, Copy, PartialEq, Eq)]
 pub struct Record {
     pub parent: u8,
     pub caller: u8,
@@ -19,13 +19,6 @@ pub struct Record {
     pub version: u8,
     pub members: u16,
     pub kind: Kind,
-}
-
-// What a search among the records finds: a record with its number, or nothing.
-#[derive(Clone, Copy)]
-pub enum Found {
-    At(u8, Record),
-    Nothing,
 }
 
 // The four proposals. Any value of any field gets an answer.
@@ -78,19 +71,5 @@ pub enum Refusal {
 pub enum Answer {
     Accepted(u8),
     Short,
-    Refused(Refusal),
-}
-
-// The answer to a reading that gives a number.
-#[derive(Clone, Copy)]
-pub enum Reading {
-    Number(u32),
-    Refused(Refusal),
-}
-
-// The answer to reading one record.
-#[derive(Clone, Copy)]
-pub enum Shown {
-    One(Record),
     Refused(Refusal),
 }
