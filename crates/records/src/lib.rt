@@ -2,11 +2,11 @@
 #![tactic(auto)]
 
 ghost use Rattle.std.specs.Prelude.{◌≡◌};
-ghost use Rattle.rules.specs.Records.{blank, is_commit, is_change, is_entry, above, holds, called};
+ghost use Rattle.rules.specs.Records.{blank, at, is_commit, is_change, is_entry, above, holds, called};
 ghost use Rattle.rules.specs.Tree.{later};
 ghost use Rattle.records.specs.Used.{used};
 
-use rules::{Found, Kind, Record};
+use rules::{Kind, Record};
 
 // What a place holds before a record is put there.
 pub fn blank() -> Record
@@ -22,69 +22,48 @@ pub fn blank() -> Record
     }
 }
 
+// The record that has a number; a blank one where none has it.
+pub fn at(records: &[Record], i: usize) -> Record
+    ensures { result ≡ at records.now i }
+{
+    records.get(i).copied().unwrap_or(blank())
+}
+
 pub fn is_commit(r: Record) -> bool
     ensures { result ≡ is_commit r }
 {
-    let kind = r.kind;
-    match kind {
-        Kind::Election { voters: _ } => false,
-        Kind::Command { number: _ } => false,
-        Kind::Change => false,
-        Kind::Commit { voters: _ } => true,
-    }
+    matches!(r.kind, Kind::Commit { .. })
 }
 
 pub fn is_change(r: Record) -> bool
     ensures { result ≡ is_change r }
 {
-    let kind = r.kind;
-    match kind {
-        Kind::Election { voters: _ } => false,
-        Kind::Command { number: _ } => false,
-        Kind::Change => true,
-        Kind::Commit { voters: _ } => false,
-    }
+    matches!(r.kind, Kind::Change)
 }
 
 // A command or a change?
 pub fn is_entry(r: Record) -> bool
     ensures { result ≡ is_entry r }
 {
-    let kind = r.kind;
-    match kind {
-        Kind::Election { voters: _ } => false,
-        Kind::Command { number: _ } => true,
-        Kind::Change => true,
-        Kind::Commit { voters: _ } => false,
-    }
+    matches!(r.kind, Kind::Command { .. } | Kind::Change)
 }
 
 // Is a above b: by time, then by version, then a commit above a record that is no commit?
 pub fn above(a: Record, b: Record) -> bool
     ensures { result ≡ above a b }
 {
-    if a.time != b.time {
-        return b.time < a.time;
-    }
-    if a.version != b.version {
-        return b.version < a.version;
-    }
-    is_commit(a) && !is_commit(b)
+    (a.time, a.version, is_commit(a)) > (b.time, b.version, is_commit(b))
 }
 
 // Does the node hold record r, whose number is i?
+#[tactic(auto, unfolding(rules::specs::Records::holds, rules::specs::Records::called))]
 pub fn holds(i: usize, r: Record, node: usize) -> bool
     ensures { result ≡ holds i r node }
 {
-    if i == 0 {
-        return true;
-    }
-    let kind = r.kind;
-    match kind {
-        Kind::Election { voters: _ } => r.caller as usize == node,
-        Kind::Command { number: _ } => r.caller as usize == node,
-        Kind::Change => r.caller as usize == node,
+    match r.kind {
+        _ if i == 0 => true,
         Kind::Commit { voters } => nodes::has(voters, node),
+        Kind::Election { .. } | Kind::Command { .. } | Kind::Change => called(r, node),
     }
 }
 
@@ -92,17 +71,17 @@ pub fn holds(i: usize, r: Record, node: usize) -> bool
 pub fn called(r: Record, node: usize) -> bool
     ensures { result ≡ called r node }
 {
-    r.caller as usize == node
+    usize::from(r.caller) == node
 }
 
 // The later of what was found and record r with number i. Of equal ones the first found stays.
-pub fn later(best: Found, i: u8, r: Record) -> Found
+pub fn later(best: Option<(usize, Record)>, i: usize, r: Record) -> Option<(usize, Record)>
     ensures { result ≡ later best i r }
 {
-    let Found::At(_, b) = best else {
-        return Found::At(i, r);
-    };
-    if above(r, b) { Found::At(i, r) } else { best }
+    match best {
+        Some((_, b)) if !above(r, b) => best,
+        _ => Some((i, r)),
+    }
 }
 
 // How many of the 256 places are in use.
@@ -110,5 +89,5 @@ pub fn later(best: Found, i: u8, r: Record) -> Found
 pub fn used(count: usize) -> usize
     ensures { result ≡ used count }
 {
-    if count < 256 { count } else { 256 }
+    count.min(256)
 }

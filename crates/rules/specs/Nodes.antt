@@ -1,5 +1,5 @@
 -- Nodes and sets of nodes. A set is a number in which node i is worth 2^i.
-use Rattle.std.specs.Prelude.{ℕ, ◌*◌, ◌/◌, ◌%◌, ◌^◌, Bool, not, ◌&&◌, ◌||◌, ltb, eqb}
+use Rattle.std.specs.Prelude.{ℕ, ◌*◌, ◌/◌, ◌%◌, ◌^◌, Bool, not, ◌&&◌, ◌||◌, ltb, leb, eqb}
 use Rattle.std.specs.Bool.{xor}
 use Rattle.rules.specs.First.{count, every}
 
