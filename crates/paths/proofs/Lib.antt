@@ -1,3 +1,3 @@
--- A walk step by step, and that a walk in the array is a walk in the table.
-pub mod Walk
+-- What each search says of a path, and that a walk in the whole array is a walk among the records in use.
+pub mod Searches
 pub mod Shown

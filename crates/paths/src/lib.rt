@@ -1,77 +1,92 @@
-// Walks up a path, from a record by parents to record 0. At most `steps` records are met, so that no walk goes on for ever.
+// Walks up a path, from a record by parents to record 0. No walk meets more records than there are, so none goes on for ever.
 #![tactic(auto)]
 
 ghost use Rattle.std.specs.Prelude.{◌≡◌};
-ghost use Rattle.rules.specs.Tree.{path_of, among, open_along, commit_along};
+ghost use Rattle.std.specs.Iterator.{YieldsFirst, item_count};
+ghost use Rattle.rules.specs.Tree.{path_of, path, on_path, open_change, commit_of_time};
+ghost use Rattle.paths.specs.Onward.{onward};
 
-use records::{is_change, is_commit};
+use records::{at, is_change, is_commit};
 use rules::Record;
 
-// Is record a on the path of record i?
-#[tactic(auto, using(crate::proofs::Walk::among_steps))]
-pub fn on_path(records: [Record; 256], steps: usize, a: u8, i: u8) -> bool
-    ensures { result ≡ among a (path_of records steps i) }
-{
-    let mut left = steps;
-    let mut at = i as usize;
-    while left > 0 {
-        if at == a as usize {
-            return true;
+// A walk up a path: how many records it may still meet, and the number of the next.
+#[derive(Clone, Copy)]
+pub struct Walk<'a> {
+    records: &'a [Record],
+    steps: usize,
+    next: usize,
+}
+
+impl<'a> Iterator for Walk<'a> {
+    type Item = usize;
+
+    ghost next_gives = { YieldsFirst onward };
+
+    ghost remaining = { item_count onward };
+
+    fn next(&mut self) -> Option<usize> {
+        if self.steps == 0 {
+            return None;
         }
-        if at == 0 {
-            return false;
-        }
-        let r = records[at];
-        at = r.parent as usize;
-        left -= 1;
+        let i = self.next;
+        self.next = usize::from(at(self.records, i).parent);
+        self.steps = if i == 0 { 0 } else { self.steps - 1 };
+        Some(i)
     }
-    false
+}
+
+// At most `steps` records from record i by parents to record 0, both included.
+pub fn path_of(records: &[Record], steps: usize, i: usize) -> Walk<'_>
+    ensures { onward result ≡ path_of records.now steps i }
+{
+    Walk {
+        records,
+        steps,
+        next: i,
+    }
+}
+
+// The path of record i.
+#[tactic(auto, unfolding(rules::specs::Tree::path))]
+pub fn path(records: &[Record], i: usize) -> Walk<'_>
+    ensures { onward result ≡ path records.now i }
+{
+    path_of(records, records.len(), i)
+}
+
+// Is record a on the path of record i?
+pub fn on_path(records: &[Record], a: usize, i: usize) -> bool
+    ensures { result ≡ on_path records.now a i }
+{
+    path(records, i).any(|j| a == j)
 }
 
 // Has the path of record i an open change? The search leaves the path at the first commit or change it meets.
-#[tactic(auto, using(crate::proofs::Walk::open_steps))]
-pub fn open_change(records: [Record; 256], steps: usize, i: u8) -> bool
-    ensures { result ≡ open_along records (path_of records steps i) }
+#[tactic(auto, unfolding(rules::specs::Tree::open_change))]
+pub fn open_change(records: &[Record], i: usize) -> bool
+    ensures { result ≡ open_change records.now i }
 {
-    let mut left = steps;
-    let mut at = i as usize;
+    let mut up = path(records, i);
     let open = loop {
-        if left == 0 {
+        let Some(j) = up.next() else {
             break false;
-        }
-        let r = records[at];
+        };
+        let r = at(records, j);
         if is_commit(r) {
             break false;
         }
         if is_change(r) {
             break true;
         }
-        if at == 0 {
-            break false;
-        }
-        at = r.parent as usize;
-        left -= 1;
     };
     open
 }
 
 // Has the path of record i a commit of this time?
-#[tactic(auto, using(crate::proofs::Walk::commit_steps))]
-pub fn commit_of_time(records: [Record; 256], steps: usize, time: u32, i: u8) -> bool
-    ensures { result ≡ commit_along records time (path_of records steps i) }
+pub fn commit_of_time(records: &[Record], time: u32, i: usize) -> bool
+    ensures { result ≡ commit_of_time records.now time i }
 {
-    let mut left = steps;
-    let mut at = i as usize;
-    while left > 0 {
-        let r = records[at];
-        if is_commit(r) && r.time == time {
-            return true;
-        }
-        if at == 0 {
-            return false;
-        }
-        at = r.parent as usize;
-        left -= 1;
-    }
-    false
+    path(records, i)
+        .map(|j| at(records, j))
+        .any(|r| is_commit(r) && r.time == time)
 }
