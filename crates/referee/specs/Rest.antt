@@ -1,17 +1,33 @@
 -- What is left of a proposal once the first lines of its order are not given. Each is a tail of the order in rules.
-use Rattle.std.specs.Prelude.{ℕ, Bool, cond, not, ◌&&◌, [], ◌∷◌, eqb}
+use Rattle.std.specs.Prelude.{ℕ, Bool, cond, not, ◌&&◌, [], ◌∷◌, Result as Fallible, Ok, Err, ltb, eqb}
 use Rattle.rules.specs.declared.Kind.{Kind}
 use Rattle.rules.specs.declared.Kind.TheVariants.{Change}
 use Rattle.rules.specs.declared.Record.{Record}
-use Rattle.rules.specs.declared.Refusal.TheVariants.{CallerAbsent, Stranger, ClockPast, Superseded, NotNext, OpenChange, NoCommitYet, TableFull, VersionsOut, OffBranch}
+use Rattle.rules.specs.declared.Refusal.{Refusal}
+use Rattle.rules.specs.declared.Refusal.TheVariants.{NoSuchCaller, CallerAbsent, Stranger, ClockPast, NotLeading, BadTarget, Superseded, NotNext, OpenChange, NoCommitYet, TableFull, VersionsOut, OffBranch}
 use Rattle.rules.specs.Nodes.{has}
 use Rattle.rules.specs.Scheme.{quorum, within, next}
 use Rattle.rules.specs.Clocks.{some_past}
-use Rattle.rules.specs.Records.{is_entry, called}
-use Rattle.rules.specs.Tree.{on_path, open_change, commit_of_time, latest_commit}
+use Rattle.rules.specs.Records.{at, is_entry, called}
+use Rattle.rules.specs.Tree.{number_of, record_of, last_called, leads, on_path, open_change, commit_of_time, latest_commit}
 use Rattle.rules.specs.State.{State, full}
 use Rattle.rules.specs.Refusals.{◌⇒◌, decide}
-use Rattle.rules.specs.Proposals.{Result, refused_in, voted, short, added, election, entry, superseded, committed}
+use Rattle.rules.specs.Proposals.{Result, refused_in, voted, short, added, election, entry, bad_target, superseded, committed}
+
+-- the node that a caller's number stands for, or 2
+abbrev pub node_of : ℕ → Fallible ℕ Refusal
+node_of caller = cond (ltb 15 caller) (Err NoSuchCaller) (Ok caller)
+
+-- the head of a node that leads, with its number, or 6
+abbrev pub head_of : State → ℕ → Fallible (ℕ × Record) Refusal
+head_of s caller =
+    cond (leads s.clocks s.records caller)
+    (Ok (number_of (last_called s.records caller), record_of s.records (last_called s.records caller)))
+    (Err NotLeading)
+
+-- the target with its number, or 7
+abbrev pub target_of : State → ℕ → ℕ → Fallible (ℕ × Record) Refusal
+target_of s caller target = cond (bad_target s caller target) (Err BadTarget) (Ok (target, at s.records target))
 
 -- pull after 16, 2, 3 and 5: 4, 12
 unfoldable pub elected_on : State → ℕ → Record → ℕ → ℕ → ℕ → Result

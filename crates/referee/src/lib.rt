@@ -2,16 +2,17 @@
 // Any state and any values get the answer or the numbered refusal that rules defines; a refusal hands back the very same struct.
 #![tactic(auto)]
 
-ghost use Rattle.std.specs.Prelude.{◌≡◌, ◌≤◌, ◌<◌};
+ghost use Rattle.std.specs.Prelude.{◌≡◌};
 ghost use Rattle.rules.specs.State.{is_table};
-ghost use Rattle.rules.specs.Proposals.{added};
-ghost use Rattle.referee.specs.View.{view, seen, refused_with};
+ghost use Rattle.referee.specs.View.{view, outcome, placed, revoted};
 
-mod entry;
-mod open;
-mod pull;
-mod push;
-mod reading;
+mod entry; // entry.rt: invoke and reconfigure
+mod open; // open.rt: opening
+mod pull; // pull.rt: pull
+mod push; // push.rt: push
+mod reading; // reading.rt: readings
+mod stub;
+mod tested; // tested.rt: a state that passed the test
 
 use rules::{Answer, Record, Refusal};
 
@@ -32,41 +33,55 @@ pub struct Outcome {
     pub answer: Answer,
 }
 
-// A refusal: the state as it was.
-fn refused(state: Table, refusal: Refusal) -> Outcome
-    ensures { result ≡ refused_with state refusal }
-{
-    Outcome {
-        state,
-        answer: Answer::Refused(refusal),
-    }
-}
+// What a proposal does where nothing refuses it: the state afterwards, and the number of the record added; none where the vote is short.
+type Done = (Table, Option<u8>);
 
 impl Table {
     // Is the state a table?
     pub fn is_table(self) -> bool
         ensures { result ≡ is_table (view self) }
     {
-        let clocks = self.clocks;
-        let records = self.records;
-        let log = self.log;
-        tables::is_table(clocks, records, self.count, log, self.length)
+        self.tested().is_ok()
     }
 
-    // A record added, with the next number.
-    fn add(self, r: Record) -> Outcome
-        requires room { self.count < 256 }
-        requires log_fits { self.length ≤ 256 }
-        ensures adds { seen result ≡ added (view self) r }
-        ensures accepts { result.answer ≡ Answer.Accepted self.count }
+    // The outcome of a proposal: what was done, or the state as it was beside the refusal.
+    fn answered(self, done: Result<Done, Refusal>) -> Outcome
+        ensures { result ≡ outcome self done }
     {
-        let n = self.count;
-        let mut after = self;
-        after.records[n] = r;
-        after.count = n + 1;
-        Outcome {
-            state: after,
-            answer: Answer::Accepted(n as u8),
+        match done {
+            Ok((state, Some(n))) => Outcome {
+                state,
+                answer: Answer::Accepted(n),
+            },
+            Ok((state, None)) => Outcome {
+                state,
+                answer: Answer::Short,
+            },
+            Err(refusal) => Outcome {
+                state: self,
+                answer: Answer::Refused(refusal),
+            },
         }
+    }
+
+    // The state after every voter's clock became the time.
+    fn voted(self, voters: u16, time: u32) -> Table
+        ensures { result ≡ revoted voters time self }
+    {
+        Table {
+            clocks: nodes::moved(voters, time, self.clocks),
+            ..self
+        }
+    }
+
+    // A record added, with the next number; 12 where no place is left.
+    fn add(self, r: Record) -> Result<Done, Refusal>
+        ensures { result ≡ placed r self }
+    {
+        let n = u8::try_from(self.count).map_err(|_| Refusal::TableFull)?;
+        let mut after = self;
+        after.records[self.count] = r;
+        after.count += 1;
+        Ok((after, Some(n)))
     }
 }

@@ -11,7 +11,6 @@ use rules::{Answer, Kind, Record, Refusal};
 fn fresh(set: u16) -> Table
     ensures { view result ≡ fresh set }
 {
-    let kind = Kind::Commit { voters: set };
     let mut records = [records::blank(); 256];
     records[0] = Record {
         parent: 0,
@@ -19,7 +18,7 @@ fn fresh(set: u16) -> Table
         time: 0,
         version: 0,
         members: set,
-        kind,
+        kind: Kind::Commit { voters: set },
     };
     Table {
         clocks: [0; 16],

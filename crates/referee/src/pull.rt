@@ -1,67 +1,59 @@
 // Pull: a node calls an election under the latest record that any of its voters holds.
-ghost use Rattle.std.specs.Prelude.{◌≡◌, true};
-ghost use Rattle.rules.specs.State.{is_table};
+ghost use Rattle.std.specs.Prelude.{◌≡◌};
 ghost use Rattle.rules.specs.Proposals.{pull};
-ghost use Rattle.referee.specs.View.{view, Meets};
+ghost use Rattle.referee.specs.View.{view, seen, outcome, Meets};
+ghost use Rattle.referee.specs.Tested.{tested};
 ghost use Rattle.referee.specs.Rest.{elected_on};
 
-use super::{Outcome, Table, refused};
-use rules::{Answer, Found, Kind, Record, Refusal};
+use super::tested::{Tested, node};
+use super::{Done, Outcome, Table};
+use rules::{Kind, Record, Refusal};
 
 impl Table {
     pub fn pull(self, caller: u32, voters: u16, time: u32) -> Outcome
         ensures { Meets self (pull (view self) caller voters time) result }
     {
-        if !self.is_table() {
-            return refused(self, Refusal::NoTable);
-        }
-        if caller > 15 {
-            return refused(self, Refusal::NoSuchCaller);
-        }
-        if !nodes::has(voters, caller as usize) {
-            return refused(self, Refusal::CallerAbsent);
-        }
-        let clocks = self.clocks;
-        if nodes::some_at_or_past(voters, time, clocks) {
-            return refused(self, Refusal::ClockPast);
-        }
-        let records = self.records;
-        let base = searches::base(records, self.count, voters);
-        let Found::At(i, b) = base else {
-            return self.elect(0, records[0], caller as u8, voters, time);
-        };
-        self.elect(i, b, caller as u8, voters, time)
+        self.answered(self.pulled(caller, voters, time))
     }
 
+    // Refusals 16, 2, 3 and 5, and the base.
+    fn pulled(&self, caller: u32, voters: u16, time: u32) -> Result<Done, Refusal>
+        ensures { seen (outcome self.now result) ≡ pull (view self.now) caller voters time }
+    {
+        let table = self.tested()?;
+        let caller = node(caller)?;
+        if !nodes::has(voters, usize::from(caller)) {
+            return Err(Refusal::CallerAbsent);
+        }
+        if nodes::some_at_or_past(voters, time, table.clocks) {
+            return Err(Refusal::ClockPast);
+        }
+        let Some((i, b)) = searches::base(table.records, voters) else {
+            return table.elect(0, self.records[0], caller, voters, time);
+        };
+        table.elect(i as u8, b, caller, voters, time)
+    }
+}
+
+impl Tested<'_> {
     // The rest of a pull, under base b, whose number is i: refusals 4 and 12, and the vote.
-    fn elect(self, i: u8, b: Record, caller: u8, voters: u16, time: u32) -> Outcome
-        requires { is_table (view self) ≡ true }
-        ensures { Meets self (elected_on (view self) i b caller voters time) result }
+    fn elect(self, i: u8, b: Record, caller: u8, voters: u16, time: u32) -> Result<Done, Refusal>
+        ensures { seen (outcome self.entry.table.now result) ≡ elected_on (tested self.entry) i b caller voters time }
     {
         if !nodes::within(voters, b.members) {
-            return refused(self, Refusal::Stranger);
+            return Err(Refusal::Stranger);
         }
-        let clocks = self.clocks;
-        let moved = nodes::moved(voters, time, clocks);
-        let mut after = self;
-        after.clocks = moved;
+        let after = self.table.voted(voters, time);
         if !nodes::quorum(voters, b.members) {
-            return Outcome {
-                state: after,
-                answer: Answer::Short,
-            };
+            return Ok((after, None));
         }
-        if self.count > 255 {
-            return refused(self, Refusal::TableFull);
-        }
-        let kind = Kind::Election { voters };
         after.add(Record {
             parent: i,
             caller,
             time,
             version: 0,
             members: b.members,
-            kind,
+            kind: Kind::Election { voters },
         })
     }
 }

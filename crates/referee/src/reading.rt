@@ -4,77 +4,49 @@ ghost use Rattle.rules.specs.Reading.{read_length, read_entry, read_record, read
 ghost use Rattle.referee.specs.View.{view, copied};
 
 use super::Table;
-use rules::{Reading, Refusal, Shown};
+use rules::{Record, Refusal};
 
 impl Table {
     // How many entries has the log?
-    pub fn log_length(self) -> Reading
+    pub fn log_length(self) -> Result<u32, Refusal>
         ensures { result ≡ read_length (view self) }
     {
-        if !self.is_table() {
-            return Reading::Refused(Refusal::NoTable);
-        }
-        Reading::Number(self.length as u32)
+        Ok(self.tested()?.log.len() as u32)
     }
 
     // Which record is entry i of the log, counted from 0?
-    pub fn log_entry(self, i: u32) -> Reading
+    pub fn log_entry(self, i: u32) -> Result<u32, Refusal>
         ensures { result ≡ read_entry (view self) i }
     {
-        if !self.is_table() {
-            return Reading::Refused(Refusal::NoTable);
-        }
-        let place = i as usize;
-        if place >= self.length {
-            return Reading::Refused(Refusal::NoSuchNumber);
-        }
-        let log = self.log;
-        Reading::Number(log[place])
+        let log = self.tested()?.log;
+        log.get(i as usize).copied().ok_or(Refusal::NoSuchNumber)
     }
 
     // What is record i?
-    pub fn record(self, i: u32) -> Shown
+    pub fn record(self, i: u32) -> Result<Record, Refusal>
         ensures { result ≡ read_record (view self) i }
     {
-        if !self.is_table() {
-            return Shown::Refused(Refusal::NoTable);
-        }
-        let place = i as usize;
-        if place >= self.count {
-            return Shown::Refused(Refusal::NoSuchNumber);
-        }
-        let records = self.records;
-        Shown::One(records[place])
+        let records = self.tested()?.records;
+        records.get(i as usize).copied().ok_or(Refusal::NoSuchNumber)
     }
 
     // What does the clock of a node say?
-    pub fn clock(self, node: u32) -> Reading
+    pub fn clock(self, node: u32) -> Result<u32, Refusal>
         ensures { result ≡ read_clock (view self) node }
     {
-        if !self.is_table() {
-            return Reading::Refused(Refusal::NoTable);
-        }
-        let place = node as usize;
-        if place > 15 {
-            return Reading::Refused(Refusal::NoSuchNumber);
-        }
-        let clocks = self.clocks;
-        Reading::Number(clocks[place])
+        let clocks = self.tested()?.clocks;
+        clocks.get(node as usize).copied().ok_or(Refusal::NoSuchNumber)
     }
 
     // Copies the log to the buffer's first places and answers its length. Further places keep what they had; refused, all do.
-    pub fn copy_log(self, buffer: &mut [u32]) -> Reading
+    pub fn copy_log(self, buffer: &mut [u32]) -> Result<u32, Refusal>
         ensures { copied buffer.new result ≡ copy_log (view self) buffer.old }
     {
-        if !self.is_table() {
-            return Reading::Refused(Refusal::NoTable);
+        let log = self.tested()?.log;
+        if buffer.len() < log.len() {
+            return Err(Refusal::BufferShort);
         }
-        let length = self.length;
-        if buffer.len() < length {
-            return Reading::Refused(Refusal::BufferShort);
-        }
-        let log = self.log;
-        logs::copy(log, length, buffer);
-        Reading::Number(length as u32)
+        logs::copy(log, buffer);
+        Ok(log.len() as u32)
     }
 }

@@ -1,9 +1,0 @@
--- What the methods share: reading a struct as a state, and meeting a contract.
-mod Views
-mod Owed
-mod Rests
-mod Heads
-mod Readings
-pub mod Determined
-mod Targets
-mod Commits
