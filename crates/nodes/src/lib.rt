@@ -97,6 +97,7 @@ pub fn some_at_or_past(voters: u16, time: u32, clocks: [u32; 16]) -> bool
 }
 
 // Is a voter's clock past the time?
+#[tactic(auto, unfolding(rules::specs::Clocks::some_at_or_past, rules::specs::Clocks::some_past))]
 pub fn some_past(voters: u16, time: u32, clocks: [u32; 16]) -> bool
     ensures { result ≡ some_past voters time clocks }
 {
