@@ -47,5 +47,5 @@ returns c =
     let test = reaches s.voters s.limit in
     any_from_yields_List test _ _ _ c.any.ensures.ran
     (YieldsList-from_enumerate (YieldsList-from_slice s.clocks (cc)) (cc))
-    (λ x b q k. search (rules, tests))
+    (λ x b q k. (search rules, search (rules, tests)))
     ∙ some_numbered test s.clocks 16 (omega arith)
