@@ -1,96 +1,63 @@
 -- A set's binary digits are its nodes. So a count of digits is a count of nodes, and `&` and `^` are "in both" and "in one alone".
-use Prim.Native.Nat.{ℕ, zero, suc, ◌+◌, ◌/◌, ◌%◌, ◌^◌, ◌≤◌, ◌<◌, min}
-use native.Mathlib.Nat.{div-one}
-use native.Mathlib.Numerals.{add-one, one-add}
+use Prim.Native.Nat.{ℕ, zero, suc, ◌+◌, ◌/◌, ◌%◌, ◌^◌, ◌≤◌, ◌<◌}
+use native.Mathlib.Nat.{pow-suc}
 use native.Mathlib.Omega.{arith}
-use mathlib.Core.Path.{◌≡◌, refl, sym, ap, ap₂, subst, ◌∙◌}
-use mathlib.Core.Bool.{Bool, true, false, ◌&&◌, xor}
-use borrow.Author.Tests.{lt-ltb, le-ltb}
+use mathlib.Core.Path.{◌≡◌, sym, ap, ◌∙◌}
+use mathlib.Core.Bool.{Bool, false, ◌&&◌, xor}
 use lib.Arith.{lt-one}
-use lib.Dec.{eqb, lit<}
-use lib.Bits.{bit_and, bit_xor, differ, and_step, xor_step, and_shr, xor_shr, and_lt, xor_lt}
+use lib.Dec.{eqb}
+use lib.Bits.{bit_and, bit_xor, and_lt, xor_lt}
 use lib.Count.{ones, ones_step}
-use lib.Pow.{shr-shr, shr_lt}
+use Rattle.std.specs.Int.{bit_at}
+use Rattle.std.proofs.lemmas.Bool.Decides.{nat_tests}
+use Rattle.std.proofs.lemmas.Nat.Bits.{bit_at_lowest, bit_at-suc, bit_at-lt, bit_at_and, bit_at_xor}
 use Rattle.rules.specs.First.{count}
 use Rattle.rules.specs.Nodes.{nodes, has, size, shared, differing, subset}
 use Rattle.rules.proofs.First.{one, count_same, count_within}
 
 -- the digit that stands for a node
 abbrev digit : ℕ → ℕ → Bool
-digit set i = eqb (set / 2 ^ i % 2) 1
+digit set i = eqb (bit_at set i) 1
+
+-- the first is worth one where it is set
+first_digit : (n : ℕ) → one (digit n 0) ≡ n % 2
+first_digit n = grind (arith, nat_tests, bit_at_lowest n)
 
 -- a count from the front
 count_front : (p : ℕ → Bool) (n : ℕ) → count p (suc n) ≡ one (p 0) + count (λ i. p (suc i)) n
 count_front p zero = omega arith
 count_front p (suc n) = omega (arith, count_front p n)
 
--- a number below 2 is 0 or 1
-two : (P : ℕ → Type 0) → P 0 → P 1 → (d : ℕ) → d < 2 → P d
-two P p q zero l = p
-two P p q (suc zero) l = q
-two P p q (suc (suc d)) l = absurd (omega arith)
-
-parity : (n : ℕ) → one (eqb (n % 2) 1) ≡ n % 2
-parity n = two (λ (d : ℕ). one (eqb d 1) ≡ d) refl refl (n % 2) (omega arith)
-
-halved : (n i : ℕ) → n / 2 / 2 ^ i ≡ n / 2 ^ suc i
-halved n i = shr-shr n 1 i ∙ ap (λ (k : ℕ). n / 2 ^ k) (one-add i)
-
-half_lt : (k n : ℕ) → n < 2 ^ suc k → n / 2 < 2 ^ k
-half_lt k n l = shr_lt k 1 (subst (λ (e : ℕ). n < 2 ^ e) (sym (add-one k)) l)
-
-first_digit : (n : ℕ) → one (digit n 0) ≡ n % 2
-first_digit n = ap (λ (x : ℕ). one (eqb (x % 2) 1)) (div-one n) ∙ parity n
-
 -- a count of set digits is a count of the places where they stand
 ones_count : (k n : ℕ) → n < 2 ^ k → ones n ≡ count (digit n) k
 unfolding ones
 ones_count zero n l = ap ones (lt-one l)
 ones_count (suc k) n l =
-    ones_step n
-    ∙ ap₂ ◌+◌ (sym (first_digit n))
-    (ones_count k (n / 2) (half_lt k n l)
-    ∙ count_same (digit (n / 2)) (λ i. digit n (suc i)) k (λ i h. ap (λ (x : ℕ). eqb (x % 2) 1) (halved n i)))
-    ∙ sym (count_front (digit n) k)
-
-low_and : (x y : ℕ) → eqb (bit_and x y % 2) 1 ≡ eqb (x % 2) 1 && eqb (y % 2) 1
-low_and x y =
-    let e : bit_and x y % 2 ≡ min (x % 2) (y % 2) = omega (arith, and_step x y) in
-    ap (λ (d : ℕ). eqb d 1) e
-    ∙ two (λ (d : ℕ). eqb (min d (y % 2)) 1 ≡ eqb d 1 && eqb (y % 2) 1)
-    (two (λ (d : ℕ). eqb (min 0 d) 1 ≡ false) refl refl (y % 2) (omega arith))
-    (two (λ (d : ℕ). eqb (min 1 d) 1 ≡ eqb d 1) refl refl (y % 2) (omega arith))
-    (x % 2)
-    (omega arith)
-
-low_xor : (x y : ℕ) → eqb (bit_xor x y % 2) 1 ≡ xor (eqb (x % 2) 1) (eqb (y % 2) 1)
-unfolding xor
-low_xor x y =
-    let small : differ (x % 2) (y % 2) < 2 =
-    two (λ (d : ℕ). differ d (y % 2) < 2) (omega arith) (two (λ (d : ℕ). differ 1 d < 2) (lit< tt) (lit< tt) (y % 2) (omega arith)) (x % 2) (omega arith) in
-    let e : bit_xor x y % 2 ≡ differ (x % 2) (y % 2) = omega (arith, xor_step x y) in
-    ap (λ (d : ℕ). eqb d 1) e
-    ∙ two (λ (d : ℕ). eqb (differ d (y % 2)) 1 ≡ xor (eqb d 1) (eqb (y % 2) 1))
-    (two (λ (d : ℕ). eqb (differ 0 d) 1 ≡ xor false (eqb d 1)) refl refl (y % 2) (omega arith))
-    (two (λ (d : ℕ). eqb (differ 1 d) 1 ≡ xor true (eqb d 1)) refl refl (y % 2) (omega arith))
-    (x % 2)
-    (omega arith)
+    omega (
+      arith,
+      ones_step n,
+      first_digit n,
+      ones_count k (n / 2) (omega (arith, pow-suc 2 k)),
+      count_same (digit (n / 2)) (λ i. digit n (suc i)) k (λ i h. rw (bit_at-suc n i)),
+      count_front (digit n) k,
+    )
 
 digit_and : (a b i : ℕ) → digit (bit_and a b) i ≡ digit a i && digit b i
-digit_and a b i = ap (λ (x : ℕ). eqb (x % 2) 1) (and_shr a b i) ∙ low_and (a / 2 ^ i) (b / 2 ^ i)
+digit_and a b i = grind (arith, nat_tests, bit_at_and a b i, bit_at-lt a i, bit_at-lt b i)
 
 digit_xor : (a b i : ℕ) → digit (bit_xor a b) i ≡ xor (digit a i) (digit b i)
-digit_xor a b i = ap (λ (x : ℕ). eqb (x % 2) 1) (xor_shr a b i) ∙ low_xor (a / 2 ^ i) (b / 2 ^ i)
+unfolding xor
+digit_xor a b i = grind (arith, nat_tests, bit_at_xor a b i, bit_at-lt a i, bit_at-lt b i)
 
 -- below 16 a node is in the set where its digit is set
 pub has_digit : (set i : ℕ) → i < nodes → has set i ≡ digit set i
 unfolding has
-has_digit set i l = rw (lt-ltb i nodes l)
+has_digit set i l = grind (arith, nat_tests)
 
 -- above, it is in no set
 pub has_over : (set i : ℕ) → nodes ≤ i → has set i ≡ false
 unfolding has
-has_over set i l = rw (le-ltb i nodes l)
+has_over set i l = grind (arith, nat_tests)
 
 -- digits that agree with a test of nodes count the nodes that pass
 counts : (n : ℕ) (p : ℕ → Bool) → n < 2 ^ 16 → ((i : ℕ) → i < nodes → digit n i ≡ p i) → ones n ≡ count p nodes
