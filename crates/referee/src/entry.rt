@@ -17,6 +17,7 @@ impl Table {
     }
 
     // Refusals 16, 2 and 6, and the growth.
+    #[tactic(auto, unfolding(rules::specs::Proposals::invoke, rules::specs::Proposals::invoke_on, crate::specs::Rest::grown_on))]
     fn invoked(&self, caller: u32, number: u32) -> Result<Done, Refusal>
         ensures { seen (outcome self.now result) ≡ invoke (view self.now) caller number }
     {
@@ -33,6 +34,7 @@ impl Table {
     }
 
     // Refusals 16, 2, 1 and 6, and the change.
+    #[tactic(auto, using(crate::proofs::Heads::reconfigure_rest), unfolding(rules::specs::Proposals::reconfigure, rules::specs::Proposals::reconfigure_on, crate::specs::Rest::grown_on, crate::specs::Rest::changed_on, rules::specs::Nodes::empty))]
     fn reconfigured(&self, caller: u32, new: u16) -> Result<Done, Refusal>
         ensures { seen (outcome self.now result) ≡ reconfigure (view self.now) caller new }
     {
@@ -48,6 +50,7 @@ impl Table {
 
 impl Tested<'_> {
     // The rest of a reconfigure, under head h, whose number is i: refusals 3, 9, 10 and 11, and the growth.
+    #[tactic(auto, unfolding(crate::specs::Rest::changed_on))]
     fn change(self, i: u8, h: Record, caller: u8, new: u16) -> Result<Done, Refusal>
         ensures { seen (outcome self.entry.table.now result) ≡ changed_on (tested self.entry) i h caller new }
     {
@@ -67,6 +70,7 @@ impl Tested<'_> {
     }
 
     // The growth of a branch under head h, whose number is i: refusals 13 and 12, and the entry.
+    #[tactic(auto, using(crate::proofs::Structs::placed_same), unfolding(crate::specs::Rest::grown_on))]
     fn grow(self, i: u8, h: Record, caller: u8, members: u16, kind: Kind) -> Result<Done, Refusal>
         ensures { seen (outcome self.entry.table.now result) ≡ grown_on (tested self.entry) i h caller members kind }
     {

@@ -17,6 +17,7 @@ impl Table {
     }
 
     // Refusals 16, 2, 3 and 5, and the base.
+    #[tactic(auto, using(rules::proofs::Searches::base_small), unfolding(rules::specs::Proposals::pull, rules::specs::Proposals::pull_on, crate::specs::Rest::elected_on))]
     fn pulled(&self, caller: u32, voters: u16, time: u32) -> Result<Done, Refusal>
         ensures { seen (outcome self.now result) ≡ pull (view self.now) caller voters time }
     {
@@ -29,7 +30,7 @@ impl Table {
             return Err(Refusal::ClockPast);
         }
         let Some((i, b)) = searches::base(table.records, voters) else {
-            return table.elect(0, self.records[0], caller, voters, time);
+            return table.elect(0, records::at(table.records, 0), caller, voters, time);
         };
         table.elect(i as u8, b, caller, voters, time)
     }
@@ -37,6 +38,7 @@ impl Table {
 
 impl Tested<'_> {
     // The rest of a pull, under base b, whose number is i: refusals 4 and 12, and the vote.
+    #[tactic(auto, using(crate::proofs::Structs::placed_voted, crate::proofs::Structs::view_voted), unfolding(crate::specs::Rest::elected_on))]
     fn elect(self, i: u8, b: Record, caller: u8, voters: u16, time: u32) -> Result<Done, Refusal>
         ensures { seen (outcome self.entry.table.now result) ≡ elected_on (tested self.entry) i b caller voters time }
     {

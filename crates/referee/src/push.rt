@@ -17,6 +17,7 @@ impl Table {
     }
 
     // Refusals 16, 2, 6 and 7, and the rest.
+    #[tactic(auto, using(crate::proofs::Targets::pushed_on_lem), unfolding(rules::specs::Proposals::push, rules::specs::Proposals::push_on, crate::specs::Rest::pushed_on, crate::specs::Rest::committed_on))]
     fn pushed(&self, caller: u32, voters: u16, target: u32) -> Result<Done, Refusal>
         ensures { seen (outcome self.now result) ≡ push (view self.now) caller voters target }
     {
@@ -30,6 +31,7 @@ impl Table {
 
 impl Tested<'_> {
     // The target's number and record: a command or change of this caller, with the time of its clock; 7 where it is none.
+    #[tactic(auto, unfolding(rules::specs::Proposals::bad_target))]
     fn target(self, caller: u8, target: u32) -> Result<(u8, Record), Refusal>
         ensures { result ≡ target_of (tested self.entry) caller target }
     {
@@ -43,6 +45,7 @@ impl Tested<'_> {
     }
 
     // The rest of a push of the target, whose record is t: refusals 8, 3, 4 and 5, and the vote.
+    #[tactic(auto, using(crate::proofs::Structs::view_voted), unfolding(crate::specs::Rest::pushed_on))]
     fn push_on(self, t: Record, caller: u8, voters: u16, target: u8) -> Result<Done, Refusal>
         ensures { seen (outcome self.entry.table.now result) ≡ pushed_on (tested self.entry) t caller voters target }
     {

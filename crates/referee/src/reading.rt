@@ -8,6 +8,7 @@ use rules::{Record, Refusal};
 
 impl Table {
     // How many entries has the log?
+    #[tactic(auto, unfolding(rules::specs::Reading::read_length))]
     pub fn log_length(self) -> Result<u32, Refusal>
         ensures { result ≡ read_length (view self) }
     {
@@ -15,6 +16,7 @@ impl Table {
     }
 
     // Which record is entry i of the log, counted from 0?
+    #[tactic(auto, unfolding(rules::specs::Reading::read_entry))]
     pub fn log_entry(self, i: u32) -> Result<u32, Refusal>
         ensures { result ≡ read_entry (view self) i }
     {
@@ -23,6 +25,7 @@ impl Table {
     }
 
     // What is record i?
+    #[tactic(auto, unfolding(rules::specs::Reading::read_record))]
     pub fn record(self, i: u32) -> Result<Record, Refusal>
         ensures { result ≡ read_record (view self) i }
     {
@@ -31,6 +34,7 @@ impl Table {
     }
 
     // What does the clock of a node say?
+    #[tactic(auto, unfolding(rules::specs::Reading::read_clock, rules::specs::Nodes::nodes))]
     pub fn clock(self, node: u32) -> Result<u32, Refusal>
         ensures { result ≡ read_clock (view self) node }
     {
@@ -39,6 +43,7 @@ impl Table {
     }
 
     // Copies the log to the buffer's first places and answers its length. Further places keep what they had; refused, all do.
+    #[tactic(auto, using(logs::proofs::Laid::laid_is), unfolding(rules::specs::Reading::copy_log))]
     pub fn copy_log(self, buffer: &mut [u32]) -> Result<u32, Refusal>
         ensures { copied buffer.new result ≡ copy_log (view self) buffer.old }
     {

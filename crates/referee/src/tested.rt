@@ -1,5 +1,5 @@
 // A state that passed the test: its records and its log's entries, and who leads.
-ghost use Rattle.std.specs.Prelude.{◌≡◌, true, MatchResult};
+ghost use Rattle.std.specs.Prelude.{◌≡◌, ◌≤◌, true, length, MatchResult};
 ghost use Rattle.rules.specs.State.{is_table};
 ghost use Rattle.referee.specs.View.{view, Fails};
 ghost use Rattle.referee.specs.Rest.{node_of};
@@ -15,6 +15,10 @@ pub struct Tested<'a> {
     pub records: &'a [Record],
     pub log: &'a [u32],
     ghost sound: { is_table (view table.now) ≡ true },
+    ghost places: { length table.now.records ≡ 256 },
+    ghost pages: { length table.now.log ≡ 256 },
+    ghost few: { length records.now ≤ 256 },
+    ghost short: { length log.now ≤ 256 },
     ghost all_clocks: { clocks ≡ (view table.now).clocks },
     ghost in_use: { records.now ≡ (view table.now).records },
     ghost entries: { log.now ≡ (view table.now).log },
@@ -32,6 +36,7 @@ pub fn node(caller: u32) -> Result<u8, Refusal>
 
 impl Table {
     // The state as a table; 16 where it is none.
+    #[tactic(auto, using(crate::proofs::Structs::too_many, crate::proofs::Structs::too_long, crate::proofs::Structs::view_is))]
     pub fn tested(&self) -> Result<Tested<'_>, Refusal>
         ensures { MatchResult result (λ w. w.table.now ≡ self.now) (Fails (view self.now)) }
     {
@@ -62,6 +67,7 @@ impl<'a> Tested<'a> {
     }
 
     // The head of a node, with its number; 6 where the node doesn't lead.
+    #[tactic(auto, using(crate::proofs::Heads::leads_none, crate::proofs::Heads::leads_by, rules::proofs::Searches::called_small))]
     pub fn head(self, caller: u8) -> Result<(u8, Record), Refusal>
         ensures { result ≡ head_of (tested self.entry) caller }
     {

@@ -85,3 +85,15 @@ commit_found records l c = found (λ i r. is_commit r) records 0 l c
 pub commit_is : (records : List Record) (i : ℕ) → LatestAt (λ i r. is_commit r) records i → latest_commit records ≡ i
 unfolding latest_commit last_commit
 commit_is records i c = ap number_of (latest_found {r = at records i} c)
+
+-- what is found has a record's number
+found_small : (wanted : ℕ → Record → Bool) (records : List Record) (i : ℕ) (r : Record) → latest wanted records ≡ Some (i, r) → i < length records
+found_small wanted records i r e = (rw e at (latest_right wanted records)).among
+
+pub base_small : (records : List Record) (voters i : ℕ) (r : Record) → base records voters ≡ Some (i, r) → i < length records
+unfolding base
+base_small records voters i r e = found_small (held_by_any voters) records i r e
+
+pub called_small : (records : List Record) (node i : ℕ) (r : Record) → last_called records node ≡ Some (i, r) → i < length records
+unfolding last_called
+called_small records node i r e = found_small (λ j q. called q node) records i r e

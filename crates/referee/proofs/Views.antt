@@ -1,0 +1,151 @@
+-- Reading a struct as a state: what a table's numbers are, and what a change of the struct changes in the state.
+use Prim.Native.Nat.{ℕ, ◌+◌, ◌≤◌, ◌<◌}
+use native.Mathlib.Numerals.{add-one}
+use native.Mathlib.Omega.{arith}
+use mathlib.Core.Path.{◌≡◌, refl, sym, ap, ◌∙◌}
+use mathlib.Core.Bool.{Bool, true, false, cond, ◌&&◌}
+use mathlib.Core.List.{List, [], ◌∷◌, ◌++◌}
+use borrow.Author.Tests.{le-leb, lt-leb, leb-true}
+use lib.Dec.{leb}
+use lib.ListN.{length, take, set}
+use lib.Seq.{take-suc-set, length-take-le}
+use Rattle.rules.specs.declared.Record.{Record}
+use Rattle.rules.specs.State.{State, places, full, is_table, counted}
+use Rattle.rules.specs.Clocks.{moved}
+use Rattle.rules.specs.Proposals.{Result, added, voted}
+use Rattle.rules.specs.declared.Answer.{Answer}
+use Rattle.rules.specs.declared.Answer.TheVariants.{Accepted}
+use Rattle.rules.proofs.Bools.{and_left, and_right}
+use Rattle.rules.proofs.State.{table_says}
+use Rattle.std.specs.Prelude.{Option, Some, None}
+use Rattle.rules.specs.Records.{called}
+use Rattle.rules.specs.Tree.{latest, last_called}
+use Rattle.rules.proofs.Latest.{latest_right}
+use Rattle.rules.proofs.Paths.{Rising, rising}
+use Rattle.records.specs.Used.{shown}
+
+abbrev state : List ℕ → List Record → List ℕ → State
+state clocks records log = record { clocks = clocks; records = records; log = log }
+
+-- a state with other clocks
+abbrev pub with_clocks : List ℕ → State → State
+with_clocks clocks s = state clocks s.records s.log
+
+-- what a search finds is a record
+found_known : (wanted : ℕ → Record → Bool) (records : List Record) (i : ℕ) (r : Record) → latest wanted records ≡ Some (i, r) → i < length records
+found_known wanted records i r e = (rw e at (latest_right wanted records)).among
+
+module _ (clocks : List ℕ) (records : List Record) (count : ℕ) (log : List ℕ) (size : ℕ) where
+  -- the state of numbers in range
+  abbrev pub within : State
+  within = state clocks (take count records) (take size log)
+
+  pub shown_is : count ≤ 256 → size ≤ 256 → shown clocks records count log size ≡ within
+  unfolding shown
+  shown_is few short = rw (le-leb count 256 few, le-leb size 256 short)
+
+  -- other clocks, and nothing else
+  pub shown_clocks : (other : List ℕ) → shown other records count log size ≡ with_clocks other (shown clocks records count log size)
+  unfolding shown
+  shown_clocks other = go (leb count 256 && leb size 256)
+    where
+      go : (b : Bool)
+          → cond b (state other (take count records) (take size log)) (state other [] [])
+          ≡ with_clocks other (cond b within (state clocks [] []))
+      go true = refl
+      go false = refl
+
+  -- the clocks are the struct's own
+  pub clocks_is : (shown clocks records count log size).clocks ≡ clocks
+  unfolding shown
+  clocks_is = go (leb count 256 && leb size 256)
+    where
+      go : (b : Bool) → (cond b within (state clocks [] [])).clocks ≡ clocks
+      go true = refl
+      go false = refl
+
+  -- a table's numbers are in range
+  module _ (table : is_table (shown clocks records count log size) ≡ true) where
+    in_range : leb count 256 && leb size 256 ≡ true
+    unfolding shown is_table counted
+    in_range = go (leb count 256 && leb size 256) table
+      where
+        go : (b : Bool) → is_table (cond b within (record { clocks = clocks; records = []; log = [] })) ≡ true → b ≡ true
+        go true e = refl
+        go false e = e
+
+    pub few : count ≤ 256
+    few = leb-true count 256 (and_left (leb count 256) (leb size 256) in_range)
+
+    pub short : size ≤ 256
+    short = leb-true size 256 (and_right (leb count 256) (leb size 256) in_range)
+
+    pub table_is : shown clocks records count log size ≡ within
+    table_is = shown_is few short
+
+    pub records_is : (shown clocks records count log size).records ≡ take count records
+    records_is = ap (λ s. s.records) table_is
+
+    -- the parents of a table's records are lower
+    pub table_rising : Rising (take count records)
+    table_rising = rising (take count records) (table_says within (ap is_table (sym table_is) ∙ table)).shaped
+
+    -- what a node called is a record
+    pub called_known : (node i : ℕ) (h : Record) → last_called (shown clocks records count log size).records node ≡ Some (i, h)
+        → i < length (take count records)
+    unfolding last_called
+    called_known node i h e =
+        found_known (λ j r. called r node) (take count records) i h (ap (λ rs. latest (λ j r. called r node) rs) (sym records_is) ∙ e)
+
+    module _ (places' : length records ≡ 256) where
+      pub length_is : length (take count records) ≡ count
+      length_is = length-take-le count records (let l = few in omega arith)
+
+      pub some : 0 < count
+      some = omega (arith, length_is, (table_says within (ap is_table (sym table_is) ∙ table)).some_records)
+
+-- a vote's clocks
+pub shown_voted : (clocks : List ℕ) (records : List Record) (count : ℕ) (log : List ℕ) (size voters time : ℕ) (after : List ℕ)
+    → after ≡ moved voters time clocks
+    → shown after records count log size ≡ voted (shown clocks records count log size) voters time
+unfolding shown
+shown_voted clocks records count log size voters time after e = rw e (go (leb count 256 && leb size 256))
+  where
+    go : (b : Bool)
+        → cond b (state (moved voters time clocks) (take count records) (take size log)) (state (moved voters time clocks) [] [])
+        ≡ voted (cond b (state clocks (take count records) (take size log)) (state clocks [] [])) voters time
+    go true = refl
+    go false = refl
+
+-- whether a table is full is told by its count
+module _ (clocks : List ℕ) (records : List Record) (count : ℕ) (log : List ℕ) (size : ℕ)
+    (table : is_table (shown clocks records count log size) ≡ true) (whole : length records ≡ 256) where
+  full_is : full (shown clocks records count log size).records ≡ leb 256 count
+  unfolding full places
+  full_is =
+      ap (λ s. leb 256 (length s.records)) (table_is clocks records count log size table)
+      ∙ ap (leb 256) (length_is clocks records count log size table whole)
+
+  pub is_full : 255 < count → full (shown clocks records count log size).records ≡ true
+  is_full l = full_is ∙ le-leb 256 count l
+
+  pub has_room : count ≤ 255 → full (shown clocks records count log size).records ≡ false
+  has_room l = full_is ∙ lt-leb 256 count (omega arith)
+
+abbrev pub result : State → Answer → Result
+result s a = record { state = s; answer = a }
+
+-- one record more
+module _ (clocks : List ℕ) (records : List Record) (count : ℕ) (log : List ℕ) (size : ℕ) (r : Record)
+    (place : count < 256) (short : size ≤ 256) (whole : length records ≡ 256) where
+  pub shown_added : result (shown clocks (set records count r) (count + 1) log size) (Accepted count)
+      ≡ added (shown clocks records count log size) r
+  shown_added =
+      let next = shown_is clocks (set records count r) (count + 1) log size (omega arith) short in
+      let now = shown_is clocks records count log size (omega arith) short in
+      let more : take (count + 1) (set records count r) ≡ take count records ++ (r ∷ []) =
+      ap (λ k. take k (set records count r)) (add-one count) ∙ take-suc-set records count r (omega arith) in
+      let size' = length-take-le count records (omega arith) in
+      ap (λ s. result s (Accepted count)) (next ∙ ap (λ rs. state clocks rs (take size log)) more)
+      ∙ ap (λ n. result (state clocks (take count records ++ (r ∷ [])) (take size log)) (Accepted n)) (sym size')
+      ∙ ap (λ s. added s r) (sym now)
