@@ -1,42 +1,33 @@
--- What a log gains has a place: all its entries lie on one path, which has no more numbers than there are records.
-use Prim.Native.Nat.{ℕ, zero, suc, ◌+◌, ◌≤◌, ◌<◌}
-use native.Mathlib.Omega.{arith}
-use mathlib.Core.Path.{◌≡◌, sym, ap, ◌∙◌}
-use mathlib.Core.Bool.{Bool, true, false, cond}
-use mathlib.Core.List.{List, [], ◌∷◌}
-use lib.ListN.{length, length-append, length-reverse}
+-- What a log gains: the entries that a walk meets before it stops.
+use Rattle.std.proofs.Common.{ℕ, zero, suc, ◌+◌, ◌≤◌, ◌≡◌, Bool, true, false, cond, not, List, [], ◌∷◌, length, take, refl, sym, ap, ◌∙◌, arith}
+use Rattle.std.proofs.Math.Dec.{eqb}
+use Rattle.std.proofs.lemmas.List.Sums.{take_while-cons}
+use Rattle.std.specs.List.{filter, prefix_len, take_while}
 use Rattle.rules.specs.declared.Record.{Record}
 use Rattle.rules.specs.Records.{at, is_entry}
-use Rattle.rules.specs.Tree.{path_of, path, on_path, latest_commit}
-use Rattle.rules.specs.State.{entries, log_of}
-use Rattle.rules.specs.Proposals.{gained}
-use Rattle.rules.proofs.Paths.{Rising}
-use Rattle.rules.proofs.Logs.{log_gains}
-
--- a list has no more entries than numbers
-entries_few : (records : List Record) (p : List ℕ) → length (entries records p) ≤ length p
-entries_few records [] = omega arith
-entries_few records (i ∷ p) = go (is_entry (at records i)) (entries_few records p)
-  where
-    go : (b : Bool) → length (entries records p) ≤ length p
-        → length (cond b (i ∷ entries records p) (entries records p)) ≤ suc (length p)
-    go true l = omega arith
-    go false l = omega arith
+use Rattle.rules.specs.Tree.{path_of, path}
+use Rattle.rules.specs.State.{entries}
+use Rattle.rules.specs.Proposals.{before}
 
 -- a path has no more numbers than steps
-path_few : (records : List Record) (steps i : ℕ) → length (path_of records steps i) ≤ steps
-path_few records zero i = omega arith
-path_few records (suc steps) zero = omega arith
-path_few records (suc steps) (suc i) = omega (arith, path_few records steps (at records (suc i)).parent)
+steps_few : (records : List Record) (steps i : ℕ) → length (path_of records steps i) ≤ steps
+steps_few records zero i = omega arith
+steps_few records (suc steps) zero = omega arith
+steps_few records (suc steps) (suc i) = omega (arith, steps_few records steps (at records (suc i)).parent)
 
--- a log and what it gains are together no longer than the list of records
-pub gain_few : (records : List Record) → Rising records → (i : ℕ) → i < length records → on_path records (latest_commit records) i ≡ true
-    → length (log_of records) + length (gained records i) ≤ length records
+-- nor than there are records
+pub path_few : (records : List Record) (i : ℕ) → length (path records i) ≤ length records
 unfolding path
-gain_few records up i l on =
-    omega (
-      arith,
-      sym (length-append (log_of records) (gained records i)) ∙ ap length (sym (log_gains records up i l on)) ∙ length-reverse (entries records (path records i)),
-      entries_few records (path records i),
-      path_few records (length records) i,
-    )
+path_few records i = steps_few records (length records) i
+
+-- the entries among the numbers before the stop
+pub entries_kept : (records : List Record) (stop : ℕ) (p : List ℕ)
+    → filter (λ j. is_entry (at records j)) (take_while (λ j. not (eqb stop j)) p) ≡ entries records (before stop p)
+entries_kept records stop [] = refl
+entries_kept records stop (j ∷ p) =
+    ap (filter (λ j. is_entry (at records j))) (take_while-cons (λ j. not (eqb stop j)) j p) ∙ go (eqb stop j) (entries_kept records stop p)
+  where
+    go : (b : Bool) → filter (λ j. is_entry (at records j)) (take_while (λ j. not (eqb stop j)) p) ≡ entries records (before stop p)
+        → filter (λ j. is_entry (at records j)) (cond (not b) (j ∷ take_while (λ j. not (eqb stop j)) p) []) ≡ entries records (cond b [] (j ∷ before stop p))
+    go true same = refl
+    go false same = ap (λ l. cond (is_entry (at records j)) (j ∷ l) l) same

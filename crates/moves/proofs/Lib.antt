@@ -1,4 +1,3 @@
--- What a push moves, step by step, and that it is what the table gains.
-mod Pushed
-pub mod Shown
-pub mod Gained
+-- What a push moves.
+mod Adoption
+mod Gained
