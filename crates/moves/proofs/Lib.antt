@@ -1,3 +1,5 @@
--- What a push moves.
+-- What a push moves: the children of its target, and the entries that the log gains.
 mod Adoption
-mod Gained
+pub mod Gained
+mod Written
+pub mod Shown

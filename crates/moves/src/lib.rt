@@ -34,6 +34,7 @@ pub fn gains(records: &[Record], stop: usize, i: usize) -> usize
 }
 
 // The log with those entries written to it, the newest in its last place.
+#[tactic(auto, using(crate::proofs::Written::path_climbs, crate::proofs::Written::path_small))]
 pub fn write_gained(log: &mut [u32], records: &[Record], stop: usize, i: u8)
     ensures { log.new ≡ written log.old (length log.old) (entries records.now (before stop (path records.now i))) }
 {

@@ -7,7 +7,7 @@ use Rattle.std.specs.Iterator.Adapters.{filter_source, take_while_source}
 use Rattle.rules.specs.Records.{at, is_entry}
 use Rattle.rules.specs.Tree.{path}
 use Rattle.paths.specs.Onward.{onward}
-use Rattle.moves.proofs.Gained.{path_few, entries_kept}
+use Rattle.moves.proofs.Gained.{path_few, gained_filter}
 use Rattle.moves.proofs.gains.Goals as goal
 
 pub count-requires-clause-fits : goal.count-requires-clause-fits
@@ -30,4 +30,4 @@ returns c =
     (λ x b q k. search (rules, tests))))
     c.filter.ensures.closure
     (λ x b q k. search (rules, tests)))
-    ∙ ap length (entries_kept s.records.now s.stop (path s.records.now s.i))
+    ∙ ap length (sym (gained_filter s.records.now s.stop (path s.records.now s.i)))

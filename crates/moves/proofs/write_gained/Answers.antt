@@ -1,0 +1,7 @@
+-- What is written for the whole path is what is written, from the present place on, for the part that the walk has before it.
+use Rattle.moves.proofs.Written.{written_none}
+use Rattle.moves.proofs.write_gained.Goals as goal
+
+pub returns-then-j-stop : goal.returns-then-j-stop
+returns-then-j-stop c =
+    written_none c.args.records.now _ _ _ _ _ _ _ c.loop-j.invariant.3 c.in-Some.ensures.steps c.then-j-stop.either
