@@ -33,11 +33,12 @@ pub fn gains(records: &[Record], stop: usize, i: usize) -> usize
         .count()
 }
 
-// The log with those entries written to it, the newest in its last place.
-#[tactic(auto, using(crate::proofs::Written::path_climbs, crate::proofs::Written::path_small))]
+// Writes those entries to the log: the newest in its last place, and each further one before it while there is a place.
+#[tactic(auto, using(crate::proofs::Written::path_small, crate::proofs::Written::rest_small))]
 pub fn write_gained(log: &mut [u32], records: &[Record], stop: usize, i: u8)
     ensures { log.new ≡ written log.old (length log.old) (entries records.now (before stop (path records.now i))) }
 {
+    // A loop, not `gains`' chain: that a number fits in a u32 follows from the parent that was read before it.
     let mut place = log.len();
     for j in path(records, usize::from(i)) {
         if j == stop || place == 0 {

@@ -1,5 +1,5 @@
 -- The walk's numbers before the stop are counted where they are entries.
-use Rattle.std.proofs.Common.{rules, tests, not, sym, ap, ◌∙◌, ◌≡◌, ◌<◌, ◌^◌, length, inl, arith}
+use Rattle.std.proofs.Common.{rules, tests, not, sym, ap, ◌∙◌, ◌≡◌, length, inl, arith}
 use Rattle.std.proofs.Math.Dec.{eqb}
 use Rattle.std.proofs.lemmas.Iterator.Consumers.{YieldsList-from_first, YieldsList-from_filter, YieldsList-at, count_from_yields_List}
 use Rattle.std.proofs.lemmas.Iterator.Search.{YieldsList-from_take_while}

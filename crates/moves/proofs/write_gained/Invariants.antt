@@ -5,13 +5,12 @@ use Rattle.rules.specs.State.{entries}
 use Rattle.rules.specs.Proposals.{before}
 use Rattle.paths.specs.Onward.{onward}
 use Rattle.moves.specs.Moves.{written}
-use Rattle.moves.proofs.Written.{Climbs, Small}
+use Rattle.moves.proofs.Written.{Small}
 use Rattle.moves.proofs.write_gained.Given as goal
 
 abbrev pub invariant-loop-j : goal.invariant-loop-j
 invariant-loop-j l =
     (l.place ≤ length l.log)
-    × Small (onward l.j-iterator)
-    × Climbs l.records (onward l.j-iterator)
+    × Small l.records (onward l.j-iterator)
     × (written l.initial.log (length l.initial.log) (entries l.records (before l.stop (path l.records l.i)))
     ≡ written l.log l.place (entries l.records (before l.stop (onward l.j-iterator))))
