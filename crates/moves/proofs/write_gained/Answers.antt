@@ -3,5 +3,4 @@ use Rattle.moves.proofs.Written.{written_none}
 use Rattle.moves.proofs.write_gained.Goals as goal
 
 pub returns-then-j-stop : goal.returns-then-j-stop
-returns-then-j-stop c =
-    written_none c.args.records.now _ _ _ _ _ _ _ c.loop-j.invariant.2 c.in-Some.ensures.steps c.then-j-stop.either
+returns-then-j-stop c = search (written_none, c.loop-j.invariant.2, c.in-Some.ensures.steps, c.then-j-stop.either)
