@@ -1,81 +1,66 @@
 // Searches among the records in use: a base, a head, the latest commit, a commit that supersedes a target.
 #![tactic(auto)]
 
-ghost use Rattle.std.specs.Prelude.{◌≡◌, take};
-ghost use Rattle.rules.specs.Tree.{number_of, base, last_called, last_commit};
+ghost use Rattle.std.specs.Prelude.{◌≡◌, ℕ, ◌<◌, Bool, length};
+ghost use Rattle.rules.specs.declared.Record.{Record};
+ghost use Rattle.rules.specs.Records.{at};
+ghost use Rattle.rules.specs.Tree.{number_of, latest, base, last_called, last_commit};
 ghost use Rattle.rules.specs.Proposals.{supersedes, superseded};
 
-use records::{called, holds, is_commit, later, used};
-use rules::{Found, Record};
+use records::{called, holds, is_commit, later};
+use rules::Record;
 
 // The number of what was found; 0 where nothing was.
-pub fn number_of(found: Found) -> u8
+pub fn number_of(found: Option<(usize, Record)>) -> usize
     ensures { result ≡ number_of found }
 {
-    let Found::At(i, _) = found else {
-        return 0;
-    };
-    i
+    found.map_or(0, |(i, _)| i)
 }
 
 // The latest record held by any voter.
-#[tactic(auto, using(crate::proofs::Searched::steps, rules::proofs::Held::held_by_one, rules::proofs::Held::held_by_none), unfolding(rules::specs::Tree::base))]
-pub fn base(records: [Record; 256], count: usize, voters: u16) -> Found
-    ensures { result ≡ base (take count records) voters }
+#[tactic(auto, using(rules::proofs::Held::held_by_one, rules::proofs::Held::held_by_none, rules::proofs::Latest::latest_wanted, rules::proofs::Latest::latest_passed), unfolding(rules::specs::Tree::base, rules::specs::Tree::latest))]
+pub fn base(records: &[Record], voters: u16) -> Option<(usize, Record)>
+    ensures { result ≡ base records.now voters }
 {
-    let n = used(count);
-    let mut best = Found::Nothing;
-    let mut i = 0;
-    'records: while i < n {
-        let r = records[i];
-        let mut node = 0;
-        while node < 16 {
+    let mut best = None;
+    'records: for (i, &r) in records.iter().enumerate() {
+        for node in 0..16 {
             if nodes::has(voters, node) && holds(i, r, node) {
-                best = later(best, i as u8, r);
-                i += 1;
+                best = later(best, i, r);
                 continue 'records;
             }
-            node += 1;
         }
-        i += 1;
+    }
+    best
+}
+
+// The latest of the records that pass a test.
+#[tactic(auto, unfolding(rules::specs::Tree::latest))]
+fn latest<F: Fn(Record) -> bool>(records: &[Record], wanted: F) -> Option<(usize, Record)>
+    requires { F.IsAlwaysCallable wanted }
+    ensures { (w : Record → Bool) → ((i : ℕ) (b : Bool) → i < length records.now → F.post wanted (at records.now i) b → b ≡ w (at records.now i)) → result ≡ latest (λ i r. w r) records.now }
+{
+    let mut best = None;
+    for (i, &r) in records.iter().enumerate() {
+        if wanted(r) {
+            best = later(best, i, r);
+        }
     }
     best
 }
 
 // The latest record that the node called.
-#[tactic(auto, using(crate::proofs::Searched::steps), unfolding(rules::specs::Tree::last_called))]
-pub fn last_called(records: [Record; 256], count: usize, node: usize) -> Found
-    ensures { result ≡ last_called (take count records) node }
+pub fn last_called(records: &[Record], node: usize) -> Option<(usize, Record)>
+    ensures { result ≡ last_called records.now node }
 {
-    let n = used(count);
-    let mut best = Found::Nothing;
-    let mut i = 0;
-    while i < n {
-        let r = records[i];
-        if called(r, node) {
-            best = later(best, i as u8, r);
-        }
-        i += 1;
-    }
-    best
+    latest(records, |r| called(r, node))
 }
 
 // The latest commit.
-#[tactic(auto, using(crate::proofs::Searched::steps), unfolding(rules::specs::Tree::last_commit))]
-pub fn last_commit(records: [Record; 256], count: usize) -> Found
-    ensures { result ≡ last_commit (take count records) }
+pub fn last_commit(records: &[Record]) -> Option<(usize, Record)>
+    ensures { result ≡ last_commit records.now }
 {
-    let n = used(count);
-    let mut best = Found::Nothing;
-    let mut i = 0;
-    while i < n {
-        let r = records[i];
-        if is_commit(r) {
-            best = later(best, i as u8, r);
-        }
-        i += 1;
-    }
-    best
+    latest(records, is_commit)
 }
 
 // Is the record a commit of this caller and the target's time, with a version at or past the target's?
@@ -83,31 +68,12 @@ pub fn last_commit(records: [Record; 256], count: usize) -> Found
 fn supersedes(r: Record, caller: usize, t: Record) -> bool
     ensures { result ≡ supersedes r caller t }
 {
-    if !is_commit(r) {
-        return false;
-    }
-    if !called(r, caller) {
-        return false;
-    }
-    if r.time != t.time {
-        return false;
-    }
-    t.version <= r.version
+    is_commit(r) && called(r, caller) && r.time == t.time && t.version <= r.version
 }
 
 // Has a commit of this caller and the target's time a version at or past the target's?
-#[tactic(auto, using(records::proofs::Places::used_small, records::proofs::Places::used_at, records::proofs::Places::used_length, rules::proofs::First::some_of, rules::proofs::First::some_more), unfolding(rules::specs::Proposals::superseded))]
-pub fn superseded(records: [Record; 256], count: usize, caller: usize, t: Record) -> bool
-    ensures { result ≡ superseded (take count records) caller t }
+pub fn superseded(records: &[Record], caller: usize, t: Record) -> bool
+    ensures { result ≡ superseded records.now caller t }
 {
-    let n = used(count);
-    let mut i = 0;
-    while i < n {
-        let r = records[i];
-        if supersedes(r, caller, t) {
-            return true;
-        }
-        i += 1;
-    }
-    false
+    records.iter().any(|&r| supersedes(r, caller, t))
 }

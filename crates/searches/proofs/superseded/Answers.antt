@@ -1,20 +1,15 @@
--- The loop has passed no record that supersedes the target.
-use Rattle.std.proofs.Common.{rules, arith, ◌≡◌, ◌<◌, sym, ap, ◌∙◌, length, take}
-use Rattle.rules.specs.Records.{at}
+-- What `any` answers is that some record supersedes the target.
+use Rattle.std.proofs.Common.{rules, sym, ◌∙◌}
+use Rattle.std.proofs.lemmas.Iterator.{YieldsList-from_slice}
+use Rattle.std.proofs.lemmas.Iterator.Search.{any_from_yields_List}
+use Rattle.rules.specs.Records.{blank}
 use Rattle.rules.specs.Proposals.{supersedes, superseded}
-use Rattle.rules.proofs.First.{some_of}
-use Rattle.records.specs.Used.{used}
-use Rattle.records.proofs.Places.{used_length, used_at}
+use Rattle.rules.proofs.First.{some_any}
 use Rattle.searches.proofs.superseded.Goals as goal
 
-pub returns-then-supersedes : goal.returns-then-supersedes
+pub returns : goal.returns
 unfolding superseded
-returns-then-supersedes c =
+returns c =
     let s = c.args in
-    let i = c.loop-i.i in
-    let full : length s.records ≡ 256 = search rules in
-    let here : i < used s.count = omega (arith, c.used-n.ensures) in
-    sym
-    (some_of (λ i. supersedes (at (take s.count s.records) i) s.caller s.t) (length (take s.count s.records)) i
-    (omega (arith, used_length s.records s.count full))
-    (ap (λ r. supersedes r s.caller s.t) (used_at s.records s.count i here) ∙ sym c.supersedes.ensures ∙ c.if-supersedes.true))
+    any_from_yields_List (λ r. supersedes r s.caller s.t) _ _ _ c.any.ensures.ran (YieldsList-from_slice s.records.now cc) (λ x b q k. search rules)
+        ∙ sym (some_any blank (λ r. supersedes r s.caller s.t) s.records.now)

@@ -1,2 +1,0 @@
--- What the searches share.
-mod Searched
