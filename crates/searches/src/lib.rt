@@ -1,11 +1,11 @@
 // Searches among the records in use: a base, a head, the latest commit, a commit that supersedes a target.
 #![tactic(auto)]
 
-ghost use Rattle.std.specs.Prelude.{◌≡◌, ℕ, ◌<◌, Bool, length};
+ghost use Rattle.std.specs.Prelude.{◌≡◌, Bool};
 ghost use Rattle.rules.specs.declared.Record.{Record};
-ghost use Rattle.rules.specs.Records.{at};
 ghost use Rattle.rules.specs.Tree.{number_of, latest, base, last_called, last_commit};
 ghost use Rattle.rules.specs.Proposals.{supersedes, superseded};
+ghost use Rattle.searches.specs.Tests.{Answers};
 
 use records::{called, holds, is_commit, later};
 use rules::Record;
@@ -38,7 +38,7 @@ pub fn base(records: &[Record], voters: u16) -> Option<(usize, Record)>
 #[tactic(auto, unfolding(rules::specs::Tree::latest))]
 fn latest<F: Fn(Record) -> bool>(records: &[Record], wanted: F) -> Option<(usize, Record)>
     requires { F.IsAlwaysCallable wanted }
-    ensures { (w : Record → Bool) → ((i : ℕ) (b : Bool) → i < length records.now → F.post wanted (at records.now i) b → b ≡ w (at records.now i)) → result ≡ latest (λ i r. w r) records.now }
+    ensures { (test : Record → Bool) → Answers (F.post wanted) test records.now → result ≡ latest (λ i r. test r) records.now }
 {
     let mut best = None;
     for (i, &r) in records.iter().enumerate() {

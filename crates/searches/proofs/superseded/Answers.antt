@@ -12,4 +12,4 @@ unfolding superseded
 returns c =
     let s = c.args in
     any_from_yields_List (λ r. supersedes r s.caller s.t) _ _ _ c.any.ensures.ran (YieldsList-from_slice s.records.now cc) (λ x b q k. search rules)
-        ∙ sym (some_any blank (λ r. supersedes r s.caller s.t) s.records.now)
+    ∙ sym (some_any blank (λ r. supersedes r s.caller s.t) s.records.now)
