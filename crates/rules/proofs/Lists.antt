@@ -1,5 +1,5 @@
 -- What `every` and `count` say of the numbers of a list's elements is what the library's words say of the list.
-use Prim.Native.Nat.{ℕ, zero, suc, ◌+◌}
+use Prim.Native.Nat.{ℕ, zero, suc, ◌+◌, ◌≤◌}
 use native.Mathlib.Omega.{arith}
 use mathlib.Core.Path.{◌≡◌, refl, sym, ap, ◌∙◌}
 use mathlib.Core.Bool.{Bool, true, false, cond, ◌&&◌, and-true, and_assoc}
@@ -9,6 +9,7 @@ use Rattle.std.specs.List.{filter, list_all, enumerate_from}
 use Rattle.rules.specs.declared.Record.{Record}
 use Rattle.rules.specs.First.{count, every}
 use Rattle.rules.specs.Records.{at, is_entry}
+use Rattle.rules.specs.Tree.{path_of, path}
 use Rattle.rules.specs.State.{entries}
 use Rattle.rules.proofs.First.{one}
 
@@ -51,3 +52,14 @@ count_filter d p (x ∷ xs) =
 pub entries_filter : (records : List Record) (p : List ℕ) → entries records p ≡ filter (λ j. is_entry (at records j)) p
 entries_filter records [] = refl
 entries_filter records (i ∷ up) = ap (λ (l : List ℕ). cond (is_entry (at records i)) (i ∷ l) l) (entries_filter records up)
+
+-- a path has no more records than steps
+steps_few : (records : List Record) (steps i : ℕ) → length (path_of records steps i) ≤ steps
+steps_few records zero i = omega arith
+steps_few records (suc steps) zero = omega arith
+steps_few records (suc steps) (suc i) = omega (arith, steps_few records steps (at records (suc i)).parent)
+
+-- nor than there are
+pub path_few : (records : List Record) (i : ℕ) → length (path records i) ≤ length records
+unfolding path
+path_few records i = steps_few records (length records) i

@@ -2,4 +2,5 @@
 mod Clauses
 mod Matching
 mod Branch
+mod Compared
 mod Tested
