@@ -1,26 +1,21 @@
--- The test for a table, of the arrays: out of range there is no table, and in range the clauses are those of the records in use.
-use Prim.Native.Nat.{ℕ, ◌≤◌, ◌<◌}
-use native.Mathlib.Omega.{arith}
-use native.Mathlib.Decide.{ℕ_discrete}
-use mathlib.Core.Path.{◌≡◌, refl, sym, ap, ◌∙◌}
-use mathlib.Core.Logic.{◌⊎◌, ⊎_elim}
+-- The test for a table: a number of records or entries out of range is no table, and one branch is tested by counting commits.
+use Prim.Native.Nat.{ℕ, ◌<◌}
+use mathlib.Core.Path.{◌≡◌, refl, ap}
+use mathlib.Core.Logic.{⊎_elim}
 use mathlib.Core.Bool.{Bool, true, false, cond, ◌&&◌}
 use mathlib.Core.List.{List, [], reverse}
-use borrow.Author.Tests.{le-leb, lt-leb, lt-ltb, leb-true, leb-false, ne_eqb}
-use lib.Dec.{leb, eqb}
+use borrow.Author.Tests.{lt-leb, ltb-true}
+use lib.Dec.{ltb, leb, eqb}
 use lib.ListN.{length, take}
-use lib.Seq.{length-take-le, get_or-take}
 use Rattle.rules.specs.declared.Record.{Record}
-use Rattle.rules.specs.Records.{blank, at}
-use Rattle.rules.specs.Tree.{path_of, latest_commit}
-use Rattle.rules.specs.State.{State, places, entries, log_of, counted, rooted, is_opening, all_shaped, all_timely, one_branch, same, logged, is_table}
-use Rattle.rules.proofs.Bools.{tested, and_false_right}
-use Rattle.rules.proofs.Latest.{latest_commit_known}
+use Rattle.rules.specs.Records.{at}
+use Rattle.rules.specs.Tree.{path, number_of, last_commit, latest_commit}
+use Rattle.rules.specs.State.{State, places, entries, log_of, counted, rooted, is_opening, all_shaped, all_timely, same, logged, is_table}
+use Rattle.rules.proofs.Bools.{tested, and_left, and_false_right}
 use Rattle.rules.proofs.Paths.{rising}
 use Rattle.records.specs.Used.{shown}
 use Rattle.tables.specs.Table.{commits_in, commits_along}
-use Rattle.paths.proofs.Shown.{log_shown}
-use Rattle.tables.proofs.Branch.{branch_count, commits_shown}
+use Rattle.tables.proofs.Branch.{branch_count}
 
 -- a state without records is no table
 empty : (clocks log : List ℕ) → is_table (record { clocks = clocks; records = []; log = log }) ≡ false
@@ -50,8 +45,8 @@ module _ (clocks : List ℕ) (records : List Record) (count : ℕ) (log : List �
 -- the whole test, where the commits on one path are counted
 pub by_count : (clocks : List ℕ) (records : List Record) (log : List ℕ)
     → is_table (record { clocks = clocks; records = records; log = log })
-    ≡ counted records && (is_opening (at records 0) && (all_shaped records && (all_timely clocks records && (eqb (commits_along records (path records (latest_commit records))) (commits_in records) && same log (reverse (entries records (path records (latest_commit records))))))))
-unfolding is_table counted rooted logged log_of
+    ≡ ltb 0 (length records) && leb (length records) 256 && (is_opening (at records 0) && (all_shaped records && (all_timely clocks records && (eqb (commits_along records (path records (number_of (last_commit records)))) (commits_in records) && same log (reverse (entries records (path records (number_of (last_commit records)))))))))
+unfolding is_table counted places rooted logged log_of latest_commit
 by_count clocks records log =
     ⊎_elim
     (λ k. ⊎_elim
