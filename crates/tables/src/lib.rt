@@ -101,7 +101,7 @@ fn log_along(log: &[u32], records: &[Record], i: usize) -> bool
 }
 
 // Do clocks, records and log make a table?
-#[tactic(auto, using(crate::proofs::Tested::by_count))]
+#[tactic(auto, using(std::proofs::lemmas::Bool::Decides::nat_tests, crate::proofs::Tested::by_count))]
 pub fn is_table(clocks: [u32; 16], records: &[Record], log: &[u32]) -> bool
     ensures { result ≡ is_table (record { clocks = clocks; records = records.now; log = log.now }) }
 {
