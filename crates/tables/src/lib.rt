@@ -79,7 +79,7 @@ fn all_timely(clocks: [u32; 16], records: &[Record]) -> bool
 fn commits_in(records: &[Record]) -> usize
     ensures { result ≡ commits_in records.now }
 {
-    records.iter().filter(|r| is_commit(**r)).count()
+    records.iter().filter(|&&r| is_commit(r)).count()
 }
 
 // How many commits are on the path of record i?
@@ -87,7 +87,7 @@ fn commits_along(records: &[Record], i: usize) -> usize
     ensures { result ≡ commits_along records.now (path records.now i) }
 {
     path(records, i)
-        .filter(|j| is_commit(at(records, *j)))
+        .filter(|&j| is_commit(at(records, j)))
         .count()
 }
 
@@ -96,8 +96,8 @@ fn log_along(log: &[u32], records: &[Record], i: usize) -> bool
     ensures { result ≡ same log.now (reverse (entries records.now (path records.now i))) }
 {
     path(records, i)
-        .filter(|j| is_entry(at(records, *j)))
-        .eq(log.iter().rev().map(|n| *n as usize))
+        .filter(|&j| is_entry(at(records, j)))
+        .eq(log.iter().rev().map(|&n| n as usize))
 }
 
 // Do clocks, records and log make a table?
