@@ -1,10 +1,10 @@
 -- All commits lie on the latest commit's path exactly where that path has as many commits as there are.
 -- A path has no record twice, so counting along it is counting the records on it.
-use Prim.Native.Nat.{ℕ, zero, suc, ◌+◌, ◌≤◌, ◌<◌}
+use Prim.Native.Nat.{ℕ, zero, suc, ◌+◌, ◌<◌}
 use native.Mathlib.Nat.{not-suc-le-zero}
 use native.Mathlib.Decide.{ℕ_discrete}
 use native.Mathlib.Omega.{arith}
-use mathlib.Core.Path.{◌≡◌, refl, sym, ap, ap₂, ◌∙◌}
+use mathlib.Core.Path.{◌≡◌, refl, sym, ap, ◌∙◌}
 use mathlib.Core.Bool.{Bool, true, false, cond, ◌&&◌, ◌||◌}
 use mathlib.Core.List.{List, [], ◌∷◌}
 use borrow.Author.Tests.{eq-eqb, ne_eqb}
@@ -14,7 +14,7 @@ use Rattle.std.specs.List.{filter}
 use Rattle.rules.specs.declared.Record.{Record}
 use Rattle.rules.specs.First.{count}
 use Rattle.rules.specs.Records.{at, is_commit}
-use Rattle.rules.specs.Tree.{path_of, path, among, on_path, latest_commit}
+use Rattle.rules.specs.Tree.{path, among, on_path, latest_commit}
 use Rattle.rules.specs.State.{one_branch}
 use Rattle.rules.proofs.Bools.{or_right, or_left, and_false_right}
 use Rattle.rules.proofs.First.{one, count_same, count_none, count_within, some_false}
@@ -71,4 +71,3 @@ branch_count records up l =
     count_within (λ j. is_commit (at records j)) (λ j. among j (path records last)) (length records)
     ∙ ap (λ m. eqb m (count (λ j. is_commit (at records j)) (length records)))
     (sym (along records (path records last) (length records) (path_once records up last here) (path_known records up last here)))
-

@@ -1,7 +1,7 @@
 -- The clauses of shape and of clocks, as the code tests them.
 use Prim.Native.Nat.{ℕ, ◌<◌}
 use native.Mathlib.Omega.{arith}
-use mathlib.Core.Path.{◌≡◌, refl, sym, ap, ◌∙◌}
+use mathlib.Core.Path.{◌≡◌, sym, ap, ◌∙◌}
 use mathlib.Core.Logic.{⊎_elim}
 use mathlib.Core.Bool.{Bool, true, false, not, ◌&&◌, ◌||◌, or_comm}
 use mathlib.Core.List.{List}
@@ -17,7 +17,7 @@ use Rattle.rules.specs.Records.{blank, at, above, holds, called}
 use Rattle.rules.specs.First.{every}
 use Rattle.rules.specs.Clocks.{clock}
 use Rattle.rules.specs.State.{shaped, timely}
-use Rattle.rules.proofs.Bools.{tested, or_cases, or_left, or_right, or_none_left, or_none_right}
+use Rattle.rules.proofs.Bools.{tested, or_none_left, or_none_right}
 use Rattle.rules.proofs.First.{every_at, every_of, every_fails, every_not}
 use Rattle.rules.proofs.Lists.{every_numbered}
 use Rattle.tables.specs.Table.{shaped_by, concerns}

@@ -1,5 +1,5 @@
 -- Every record with its number is record 0 or well shaped.
-use mathlib.Core.Path.{◌≡◌, sym, ◌∙◌}
+use mathlib.Core.Path.{sym, ◌∙◌}
 use mathlib.Core.Bool.{◌||◌}
 use lib.Dec.{eqb}
 use Rattle.std.proofs.Common.{rules, tests}

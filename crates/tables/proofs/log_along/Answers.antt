@@ -9,7 +9,7 @@ use Rattle.std.proofs.lemmas.Iterator.Consumers.{YieldsList-from_first, YieldsLi
 use Rattle.std.specs.Cmp.Lexicographic.{pointwise}
 use Rattle.rules.specs.Records.{at, is_entry}
 use Rattle.rules.specs.Tree.{path}
-use Rattle.rules.specs.State.{entries, same}
+use Rattle.rules.specs.State.{entries}
 use Rattle.rules.proofs.Lists.{entries_filter}
 use Rattle.paths.specs.Onward.{onward}
 use Rattle.tables.proofs.Compared.{eq_from_yields_List}

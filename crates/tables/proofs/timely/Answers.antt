@@ -1,8 +1,7 @@
 -- Each clock is at least the record's time, or is that of a node which the record doesn't concern.
-use mathlib.Core.Path.{◌≡◌, sym, ◌∙◌}
+use mathlib.Core.Path.{sym, ◌∙◌}
 use mathlib.Core.Bool.{not, ◌||◌}
 use lib.Dec.{leb}
-use lib.ListN.{length}
 use Rattle.std.proofs.Common.{rules, tests}
 use Rattle.std.proofs.lemmas.Iterator.{YieldsList-from_slice}
 use Rattle.std.proofs.lemmas.Iterator.Consumers.{YieldsList-from_enumerate, YieldsList-at}
