@@ -1,4 +1,5 @@
--- What a push moves, step by step, and that it is what the table gains.
-mod Pushed
-pub mod Shown
+-- What a push moves: the children of its target, and the entries that the log gains.
+mod Adoption
 pub mod Gained
+mod Written
+pub mod Shown

@@ -1,11 +1,12 @@
 -- What a push moves in the arrays is what it moves in the table.
+-- `adopted_shown` and `written_shown` tie the struct's whole arrays to the part in use.
 use Prim.Native.Nat.{ℕ, zero, suc, ◌+◌, ◌≤◌}
-use native.Mathlib.Nat.{add-zero, add-suc}
+use native.Mathlib.Nat.{add-zero, zero-add, add-suc}
 use native.Mathlib.Omega.{arith}
 use mathlib.Core.Path.{◌≡◌, refl, sym, ap, ap₂, ◌∙◌}
 use mathlib.Core.List.{List, [], ◌∷◌, ◌++◌, map, reverse, append-nil, append_assoc, reverse-cons}
 use lib.ListN.{length, take, get_or, set, length-set}
-use lib.Seq.{get_or-set_same, get_or-set_other, take-suc, take-suc-set, take-set-le}
+use lib.Seq.{take_all, get_or-set_same, get_or-set_other, take-suc, take-suc-set, take-set-le}
 use Rattle.rules.specs.declared.Record.{Record}
 use Rattle.rules.specs.Records.{blank, at}
 use Rattle.rules.specs.Proposals.{adopted}
@@ -65,3 +66,11 @@ written_shown (i ∷ xs) log l h =
     (written_rest xs after end end (omega arith) ∙ get_or-set_same log end i 0 (omega arith))
     ∙ append_assoc (take l log) (reverse xs) (i ∷ [])
     ∙ ap (λ (p : List ℕ). take l log ++ p) (sym (reverse-cons i xs)))
+
+-- and a log with as many places as there are numbers is these numbers
+pub written_all : (xs log : List ℕ) → length log ≡ length xs → written log (length log) xs ≡ reverse xs
+written_all xs log e =
+    let n = length xs in
+    rw e
+    (sym (take_all n (written log n xs) (omega (arith, written_length xs log n)))
+    ∙ (simp zero-add at (written_shown xs log 0 (omega arith))))

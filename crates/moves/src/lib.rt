@@ -1,109 +1,52 @@
 // What a push moves: the children of its target, and the entries that the log gains.
 #![tactic(auto)]
 
-ghost use Rattle.std.specs.Prelude.{◌≡◌, length};
-ghost use Rattle.rules.specs.Tree.{path_of};
+ghost use Rattle.std.specs.Prelude.{◌≡◌, length, map};
+ghost use Rattle.rules.specs.Tree.{path};
 ghost use Rattle.rules.specs.State.{entries};
-ghost use Rattle.rules.specs.Proposals.{with_parent, adopted, before};
-ghost use Rattle.records.specs.Used.{used};
-ghost use Rattle.moves.specs.Moves.{adopted_of, written};
+ghost use Rattle.rules.specs.Proposals.{adopted, before};
+ghost use Rattle.moves.specs.Moves.{written};
 
-use records::{is_entry, used};
+use paths::path;
+use records::{at, is_entry};
 use rules::Record;
 
-// The record, a child of the new one where it was a child of the target.
-fn adopted(r: Record, target: u8, new: u8) -> Record
-    ensures { result ≡ adopted target new r }
+// Every child of the target becomes a child of the new record.
+#[tactic(auto, using(crate::proofs::Adoption::child_more, crate::proofs::Adoption::other_more))]
+pub fn adopt(records: &mut [Record], target: u8, new: u8)
+    ensures { records.new ≡ map (adopted target new) records.old }
 {
-    if r.parent == target {
-        let kind = r.kind;
-        return Record {
-            parent: new,
-            caller: r.caller,
-            time: r.time,
-            version: r.version,
-            members: r.members,
-            kind,
-        };
+    for r in records.iter_mut() {
+        if r.parent == target {
+            r.parent = new;
+        }
     }
-    r
-}
-
-// The records with every child of the target a child of the new one.
-pub fn adopt(records: [Record; 256], count: usize, target: u8, new: u8) -> [Record; 256]
-    ensures { result ≡ adopted_of target new records (used count) }
-{
-    let n = used(count);
-    let mut after = records;
-    let mut i = 0;
-    while i < n {
-        let r = after[i];
-        after[i] = adopted(r, target, new);
-        i += 1;
-    }
-    after
 }
 
 // How many commands and changes does the path of record i have before it comes to record `stop`?
-#[tactic(auto, using(crate::proofs::Pushed::gain_steps))]
-pub fn gains(records: [Record; 256], steps: usize, stop: u8, i: u8) -> usize
-    ensures { result ≡ length (entries records (before stop (path_of records steps i))) }
+pub fn gains(records: &[Record], stop: usize, i: usize) -> usize
+    ensures { result ≡ length (entries records.now (before stop (path records.now i))) }
 {
-    let mut met = 0;
-    let mut left = steps;
-    let mut at = i as usize;
-    while left > 0 {
-        if at == stop as usize {
-            return met;
-        }
-        let r = records[at];
-        if is_entry(r) {
-            met += 1;
-        }
-        if at == 0 {
-            return met;
-        }
-        at = r.parent as usize;
-        left -= 1;
-    }
-    met
+    path(records, i)
+        .take_while(|j| *j != stop)
+        .filter(|j| is_entry(at(records, *j)))
+        .count()
 }
 
-// The log with those entries written to it, the newest just before place `end`.
-#[tactic(auto, using(crate::proofs::Pushed::write_steps))]
-pub fn write_gained(
-    log: [u32; 256],
-    end: usize,
-    records: [Record; 256],
-    steps: usize,
-    stop: u8,
-    i: u8,
-) -> [u32; 256]
-    ensures { result ≡ written log end (entries records (before stop (path_of records steps i))) }
+// Writes those entries to the log: the newest in its last place, and each further one before it while there is a place.
+#[tactic(auto, using(crate::proofs::Written::path_small, crate::proofs::Written::rest_small))]
+pub fn write_gained(log: &mut [u32], records: &[Record], stop: usize, i: u8)
+    ensures { log.new ≡ written log.old (length log.old) (entries records.now (before stop (path records.now i))) }
 {
-    let mut after = log;
-    let mut place = end;
-    let mut left = steps;
-    let mut at = i as usize;
-    while left > 0 {
-        if at == stop as usize {
-            return after;
+    // A loop, not `gains`' chain: that a number fits in a u32 follows from the parent that was read before it.
+    let mut place = log.len();
+    for j in path(records, usize::from(i)) {
+        if j == stop || place == 0 {
+            break;
         }
-        let r = records[at];
-        if is_entry(r) {
-            if place == 0 {
-                return after;
-            }
+        if is_entry(at(records, j)) {
             place -= 1;
-            if place < 256 {
-                after[place] = at as u32;
-            }
+            log[place] = j as u32;
         }
-        if at == 0 {
-            return after;
-        }
-        at = r.parent as usize;
-        left -= 1;
     }
-    after
 }

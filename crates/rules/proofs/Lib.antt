@@ -1,6 +1,7 @@
 -- The laws of the definitions, each beside the definition it is about. Callers cite these and not the definitions' text.
 pub mod Bools
 pub mod First
+pub mod Lists
 pub mod Nodes
 pub mod Scheme
 pub mod Clocks

@@ -1,48 +1,38 @@
--- The clauses of a table, as the loops meet them: what one record more adds.
-use Prim.Native.Nat.{ℕ, ◌+◌, ◌≤◌, ◌<◌}
+-- The clauses of shape and of clocks, as the code tests them.
+use Prim.Native.Nat.{ℕ, ◌<◌}
+use native.Mathlib.Omega.{arith}
 use mathlib.Core.Path.{◌≡◌, sym, ap, ◌∙◌}
-use mathlib.Core.Logic.{◌⊎◌, ⊎_elim}
-use mathlib.Core.Bool.{Bool, true, false, not, ◌&&◌, ◌||◌}
+use mathlib.Core.Logic.{⊎_elim}
+use mathlib.Core.Bool.{Bool, true, false, not, ◌&&◌, ◌||◌, or_comm}
 use mathlib.Core.List.{List}
-use borrow.Author.Tests.{ltb-true, lt-leb, le-leb}
-use lib.Dec.{ltb, leb, eqb}
-use lib.ListN.{length, take}
+use borrow.Author.Tests.{ltb-true, lt-leb, leb-false}
+use lib.Dec.{ltb, leb}
+use lib.ListN.{length, take, length-take}
+use lib.Seq.{get_or-take}
+use Rattle.std.proofs.lemmas.Bool.{not-false}
+use Rattle.std.specs.List.{list_all, enumerate_from}
 use Rattle.rules.specs.declared.Record.{Record}
 use Rattle.rules.specs.Nodes.{nodes, empty}
-use Rattle.rules.specs.Records.{at, is_commit, above, holds, called}
+use Rattle.rules.specs.Records.{blank, at, above, holds, called}
 use Rattle.rules.specs.First.{every}
 use Rattle.rules.specs.Clocks.{clock}
 use Rattle.rules.specs.State.{shaped, timely}
-use Rattle.rules.proofs.Bools.{tested, or_left, or_right}
-use Rattle.rules.proofs.First.{every_not, every_more}
-use Rattle.records.specs.Used.{used}
+use Rattle.rules.proofs.Bools.{tested, or_none_left, or_none_right}
+use Rattle.rules.proofs.First.{every_at, every_of, every_fails, every_not}
+use Rattle.rules.proofs.Lists.{every_numbered}
 use Rattle.tables.specs.Table.{shaped_by, concerns}
-use Rattle.records.proofs.Places.{used_length, used_at}
 
--- what the loops test of record i among the first ones: that it is record 0 or well shaped, that no clock is behind it, that it is a commit
-abbrev pub well_shaped : ℕ → List Record → ℕ → Bool
-well_shaped count records i = eqb i 0 || shaped (take count records) (at (take count records) i)
-
-abbrev pub in_time : List ℕ → ℕ → List Record → ℕ → Bool
-in_time clocks count records i = timely clocks i (at (take count records) i)
-
-abbrev pub commits : ℕ → List Record → ℕ → Bool
-commits count records i = is_commit (at (take count records) i)
-
--- a record is well shaped as the place of its parent says
-pub shaped_by_lem : (records : List Record) (count : ℕ) (r : Record) → length records ≡ 256
-    → shaped (take count records) r ≡ shaped_by r (at records r.parent) (used count)
+-- a record is well shaped among the first n as its parent's place says
+pub shaped_by_lem : (records : List Record) (n : ℕ) (r : Record)
+    → shaped (take n records) r ≡ shaped_by r (at records r.parent) (length (take n records))
 unfolding shaped shaped_by
-shaped_by_lem records count r full =
-    ap (λ n. ltb r.caller nodes && (not (empty r.members) && (ltb r.parent n && above r (at (take count records) r.parent)))) (used_length records count full)
-    ∙ ap (λ b. ltb r.caller nodes && (not (empty r.members) && b)) (parent (tested (ltb r.parent (used count))))
-  where
-    parent : (ltb r.parent (used count) ≡ true) ⊎ (ltb r.parent (used count) ≡ false) → ltb r.parent (used count) && above r (at (take count records) r.parent) ≡ ltb r.parent (used count) && above r (at records r.parent)
-    parent w =
-        ⊎_elim
-        (λ e. ap (λ p. ltb r.parent (used count) && above r p) (used_at records count r.parent (ltb-true r.parent (used count) e)))
-        (λ e. rw e)
-        w
+shaped_by_lem records n r =
+    ap (λ b. ltb r.caller nodes && (not (empty r.members) && b))
+    (⊎_elim
+    (λ e. ap (λ p. ltb r.parent (length (take n records)) && above r p)
+    (get_or-take n records r.parent blank (omega (arith, ltb-true r.parent (length (take n records)) e, length-take n records))))
+    (λ e. rw e)
+    (tested (ltb r.parent (length (take n records)))))
 
 -- the node neither holds nor called the record, or its clock is at least the record's time
 abbrev pub early : List ℕ → ℕ → Record → ℕ → Bool
@@ -57,13 +47,28 @@ pub early_none : (clocks : List ℕ) (i : ℕ) (r : Record) (n : ℕ) → n ≡ 
 unfolding timely nodes
 early_none clocks i r n e all = ap (every (early clocks i r)) (sym e) ∙ all
 
--- the loop goes on past a node that the record does not concern, or whose clock is not behind it
-pub early_apart : (clocks : List ℕ) (i : ℕ) (r : Record) (n : ℕ) → every (early clocks i r) n ≡ true → concerns i r n ≡ false
-    → every (early clocks i r) (n + 1) ≡ true
-unfolding concerns
-early_apart clocks i r n all e = every_more (early clocks i r) n all (or_left (leb r.time (clock clocks n)) (ap not e))
+-- a record is timely where each clock is at least its time or is that of a node which it doesn't concern
+module _ (clocks : List ℕ) (i : ℕ) (r : Record) (full : length clocks ≡ 16) where
+  abbrev passed : ℕ → ℕ → Bool
+  passed node time = leb r.time time || not (concerns i r node)
 
-pub early_reached : (clocks : List ℕ) (i : ℕ) (r : Record) (n : ℕ) → every (early clocks i r) n ≡ true → r.time ≤ clock clocks n
-    → every (early clocks i r) (n + 1) ≡ true
-early_reached clocks i r n all l =
-    every_more (early clocks i r) n all (or_right (not (holds i r n || called r n)) (le-leb r.time (clock clocks n) l))
+  abbrev here : ℕ → Bool
+  here node = passed node (clock clocks node)
+
+  none : every here (length clocks) ≡ true → timely clocks i r ≡ every here (length clocks)
+  unfolding concerns
+  none e =
+      early_none clocks i r (length clocks) full
+      (every_of (early clocks i r) (length clocks) (λ node l. or_comm _ (leb r.time (clock clocks node)) ∙ every_at here (length clocks) e node l))
+      ∙ sym e
+
+  one : every here (length clocks) ≡ false → timely clocks i r ≡ every here (length clocks)
+  one e =
+      let f = every_fails here (length clocks) e in
+      early_one clocks i r f.0 (omega (arith, f.1, full))
+      (leb-false r.time (clock clocks f.0) (or_none_left (leb r.time (clock clocks f.0)) _ f.2))
+      (not-false (concerns i r f.0) (or_none_right (leb r.time (clock clocks f.0)) _ f.2))
+      ∙ sym e
+
+  pub timely_by : timely clocks i r ≡ list_all (λ q. passed q.0 q.1) (enumerate_from 0 clocks)
+  timely_by = ⊎_elim none one (tested (every here (length clocks))) ∙ every_numbered 0 passed clocks

@@ -1,5 +1,6 @@
--- The clauses of a table as the loops meet them, the branch by counting, the log read backwards, and the whole test.
+-- The clauses of a table as the code tests them, the log read backwards, the branch by counting, and the whole test.
 mod Clauses
+mod Compared
 mod Matching
 mod Branch
 mod Tested

@@ -1,53 +1,18 @@
--- A walk up a path that counts its commits, or reads a log backwards against its entries: what each record that the walk passes adds.
-use Prim.Native.Nat.{ℕ, zero, suc, ◌+◌, ◌-◌, ◌≤◌, ◌<◌, min}
-use native.Mathlib.Nat.{not-suc-le-zero, le_of_suc-le-suc, zero-min, suc-min-suc}
+-- The log read from its end against the entries that a walk up a path meets, latest first.
+use Prim.Native.Nat.{ℕ, zero, suc, ◌-◌, ◌≤◌, ◌<◌}
+use native.Mathlib.Nat.{not-suc-le-zero}
+use native.Mathlib.Decide.{ℕ_discrete}
 use native.Mathlib.Omega.{arith}
 use mathlib.Core.Path.{◌≡◌, refl, sym, ap, ◌∙◌}
-use mathlib.Core.Bool.{Bool, true, false, ◌&&◌, and-true, and-false, and_assoc}
+use mathlib.Core.Bool.{Bool, false, ◌&&◌, and-true, and-false, and_assoc}
 use mathlib.Core.List.{List, [], ◌∷◌, ◌++◌, reverse, reverse-cons}
 use borrow.Author.Tests.{eq-eqb, ne_eqb}
 use lib.Dec.{eqb}
 use lib.ListN.{length, take, get_or}
-use lib.Seq.{take-suc}
-use Rattle.rules.specs.declared.Record.{Record}
-use Rattle.rules.specs.Records.{at, is_commit, is_entry}
-use Rattle.rules.specs.Tree.{path_of}
-use Rattle.rules.specs.State.{entries, same}
-use Rattle.records.specs.Used.{used}
-use Rattle.tables.specs.Table.{commits_along}
-use Rattle.paths.proofs.Walk.{onward, path_none, path_first, onward_root, onward_up}
-
--- the entries of a path from record j
-abbrev pub listed : List Record → ℕ → ℕ → List ℕ
-listed records left j = entries records (path_of records left j)
-
--- those that lie onward of record j
-abbrev pub further : List Record → ℕ → ℕ → List ℕ
-further records left j = entries records (onward records left j)
-
-module _ (records : List Record) (left j : ℕ) where
-  pub commits_here : 0 < left → is_commit (at records j) ≡ true
-      → commits_along records (path_of records left j) ≡ 1 + commits_along records (onward records left j)
-  commits_here l e = rw (path_first records left j l, e)
-
-  pub commits_other : 0 < left → is_commit (at records j) ≡ false
-      → commits_along records (path_of records left j) ≡ commits_along records (onward records left j)
-  commits_other l e = rw (path_first records left j l, e) (omega arith)
-
-  pub listed_none : left ≤ 0 → listed records left j ≡ []
-  listed_none l = rw (path_none records left j l)
-
-  pub listed_here : 0 < left → is_entry (at records j) ≡ true → listed records left j ≡ j ∷ further records left j
-  listed_here l e = rw (path_first records left j l, e)
-
-  pub listed_other : 0 < left → is_entry (at records j) ≡ false → listed records left j ≡ further records left j
-  listed_other l e = rw (path_first records left j l, e)
-
-  pub further_root : j ≡ 0 → further records left j ≡ []
-  further_root e = rw (onward_root records left j e)
-
-  pub further_up : (j ≡ 0 → ⊥) → further records left j ≡ listed records (left - 1) (at records j).parent
-  further_up d = rw (onward_up records left j d)
+use lib.Seq.{take-suc, take-length}
+use Rattle.std.specs.Cmp.Lexicographic.{pointwise}
+use Rattle.std.proofs.lemmas.List.{reverse-append}
+use Rattle.rules.specs.State.{same}
 
 -- Two lists, compared from their ends.
 
@@ -71,21 +36,8 @@ same_last (a ∷ rest) (b ∷ bs) x y =
 abbrev pub matches : List ℕ → ℕ → List ℕ → Bool
 matches log place xs = same (take place log) (reverse xs)
 
-take_min : (n m : ℕ) (log : List ℕ) → length log ≤ m → take (min n m) log ≡ take n log
-take_min zero m log l = ap (λ (k : ℕ). take k log) (zero-min m)
-take_min (suc n) m [] l = none (min (suc n) m)
-  where
-    none : (k : ℕ) → take {A = ℕ} k [] ≡ []
-    none zero = refl
-    none (suc k) = refl
-take_min (suc n) zero (a ∷ log) l = absurd (not-suc-le-zero l)
-take_min (suc n) (suc m) (a ∷ log) l =
-    ap (λ (k : ℕ). take k (a ∷ log)) (suc-min-suc n m) ∙ ap (λ (t : List ℕ). a ∷ t) (take_min n m log (le_of_suc-le-suc l))
-
--- a log of 256 places is read from the last place in use
-pub match_used : (log : List ℕ) (n : ℕ) (xs : List ℕ) → length log ≡ 256 → matches log n xs ≡ matches log (used n) xs
-unfolding used
-match_used log n xs e = ap (λ (t : List ℕ). same t (reverse xs)) (sym (take_min n 256 log (omega (arith, e))))
+last_place : (log : List ℕ) (place : ℕ) → place < length log → reverse (take (suc place) log) ≡ get_or log place 0 ∷ reverse (take place log)
+last_place log place l = rw (take-suc log place 0 l) (reverse-append (take place log) (get_or log place 0 ∷ []))
 
 -- no entry is left: they match where no number of the log is left either
 pub match_none : (log : List ℕ) (place : ℕ) → place ≤ length log → matches log place [] ≡ eqb place 0
@@ -123,27 +75,29 @@ match_on log place here x xs l d e q =
     ∙ and-true (matches log (place - 1) xs)
     ∙ ap (λ (k : ℕ). matches log k xs) (sym q)
 
--- What a walk up a path does to the match: it reads the log's last number at an entry, and nothing elsewhere.
+-- So the numbers from the last place on are compared, one by one, with the entries.
+backwards : (log : List ℕ) (place : ℕ) (xs : List ℕ) → place ≤ length log
+    → pointwise eqb xs (reverse (take place log)) ≡ matches log place xs
+backwards log zero [] l = sym (match_none log zero l)
+backwards log zero (x ∷ xs) l = sym (match_over log zero x xs refl)
+backwards log (suc place) [] l =
+    rw (last_place log place l) (sym (match_none log (suc place) l ∙ ne_eqb (suc place) 0 (λ e. omega arith)))
+backwards log (suc place) (x ∷ xs) l =
+    rw (last_place log place l) (go (backwards log place xs (omega arith)) (ℕ_discrete (get_or log place 0) x))
+  where
+    k : place ≡ suc place - 1
+    k = omega arith
 
-module _ (log : List ℕ) (records : List Record) (place left j : ℕ) (more : 0 < left) where
-  -- the log has nothing left for the entry that the walk is at
-  pub read_over : is_entry (at records j) ≡ true → place ≡ 0 → matches log place (listed records left j) ≡ false
-  read_over e z = ap (matches log place) (listed_here records left j more e) ∙ match_over log place j (further records left j) z
+    go : pointwise eqb xs (reverse (take place log)) ≡ matches log place xs → Dec (get_or log place 0 ≡ x)
+        → eqb x (get_or log place 0) && pointwise eqb xs (reverse (take place log)) ≡ matches log (suc place) (x ∷ xs)
+    go rest (yes e) =
+        rw (eq-eqb x (get_or log place 0) (sym e)) rest
+        ∙ sym (match_on log (suc place) place x xs l (λ z. omega arith) (ap (λ n. get_or log n 0) (sym k) ∙ e) k)
+    go rest (no d) =
+        rw (ne_eqb x (get_or log place 0) (λ e. d (sym e))) (sym (match_other log (suc place) x xs l (λ z. omega arith) (λ e. d (ap (λ n. get_or log n 0) k ∙ e))))
 
-  -- its last number is not the entry's
-  pub read_other : is_entry (at records j) ≡ true → place ≤ length log → (place ≡ 0 → ⊥) → (get_or log (place - 1) 0 ≡ j → ⊥)
-      → matches log place (listed records left j) ≡ false
-  read_other e l d f =
-      ap (matches log place) (listed_here records left j more e) ∙ match_other log place j (further records left j) l d f
-
-  -- it is, and the place before it is next
-  pub read_entry : (here : ℕ) → is_entry (at records j) ≡ true → place ≤ length log → (place ≡ 0 → ⊥) → get_or log (place - 1) 0 ≡ j
-      → here ≡ place - 1 → matches log place (listed records left j) ≡ matches log here (further records left j)
-  read_entry here e l d f q =
-      ap (matches log place) (listed_here records left j more e) ∙ match_on log place here j (further records left j) l d f q
-
-  -- the walk is at no entry
-  pub read_past : (here : ℕ) → is_entry (at records j) ≡ false → here ≡ place
-      → matches log place (listed records left j) ≡ matches log here (further records left j)
-  read_past here e q =
-      ap (matches log place) (listed_other records left j more e) ∙ ap (λ (k : ℕ). matches log k (further records left j)) (sym q)
+pub read_back : (log : List ℕ) (xs : List ℕ) → pointwise eqb xs (reverse log) ≡ same log (reverse xs)
+read_back log xs =
+    ap (λ l. pointwise eqb xs (reverse l)) (sym (take-length log))
+    ∙ backwards log (length log) xs (omega arith)
+    ∙ ap (λ l. same l (reverse xs)) (take-length log)

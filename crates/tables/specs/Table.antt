@@ -1,4 +1,4 @@
--- The clauses of a table as the loops see them.
+-- The clauses of a table as the code tests them.
 use Rattle.std.specs.Prelude.{ℕ, ◌+◌, Bool, cond, not, ◌&&◌, ◌||◌, List, [], ◌∷◌, ltb, length}
 use Rattle.rules.specs.declared.Record.{Record}
 use Rattle.rules.specs.First.{count}
