@@ -6,3 +6,4 @@ mod Heads
 mod Readings
 pub mod Determined
 mod Targets
+mod Commits

@@ -2,4 +2,3 @@
 pub mod View
 pub mod Tested
 pub mod Rest
-pub mod Stub

@@ -1,14 +1,14 @@
 -- A struct is read as the state that its parts show; an outcome, as a result of rules.
-use Rattle.std.specs.Prelude.{ℕ, ◌+◌, ◌≡◌, Bool, false, cond, List, Option, Some, None, Result as Fallible, Ok, Err, ltb, set}
+use Rattle.std.specs.Prelude.{ℕ, ◌+◌, ◌≡◌, Bool, false, cond, List, ◌++◌, map, length, take, drop, Option, Some, None, Result as Fallible, Ok, Err, ltb, set}
 use Rattle.rules.specs.declared.Refusal.{Refusal}
 use Rattle.rules.specs.declared.Record.{Record}
 use Rattle.rules.specs.declared.Refusal.TheVariants.{NoTable, TableFull}
 use Rattle.rules.specs.declared.Answer.TheVariants.{Accepted, Short, Refused}
 use Rattle.rules.specs.Clocks.{moved}
 use Rattle.rules.specs.State.{State, is_table}
-use Rattle.rules.specs.Proposals.{Result}
+use Rattle.rules.specs.Proposals.{Result, adopted}
 use Rattle.rules.specs.Reading.{Copied}
-use Rattle.records.specs.Used.{shown}
+use Rattle.records.specs.Used.{used, shown}
 use Rattle.referee.specs.declared.Table.{Table}
 use Rattle.referee.specs.declared.Outcome.{Outcome}
 
@@ -47,6 +47,28 @@ Fails s refusal = (refusal ≡ NoTable) × (is_table s ≡ false)
 -- the struct after every voter's clock became the time
 abbrev pub revoted : ℕ → ℕ → Table → Table
 revoted voters time t = record { clocks = moved voters time t.clocks; records = t.records; count = t.count; log = t.log; length = t.length }
+
+-- the struct after its log gained some entries
+abbrev pub extended : List ℕ → Table → Table
+extended gain t =
+    record {
+      clocks = t.clocks;
+      records = t.records;
+      count = t.count;
+      log = take t.length t.log ++ (gain ++ drop (t.length + length gain) t.log);
+      length = t.length + length gain;
+    }
+
+-- the struct after every child of the target among its records became a child of a new one
+abbrev pub regrouped : ℕ → ℕ → Table → Table
+regrouped target new t =
+    record {
+      clocks = t.clocks;
+      records = map (adopted target new) (take (used t.count) t.records) ++ drop (used t.count) t.records;
+      count = t.count;
+      log = t.log;
+      length = t.length;
+    }
 
 -- the struct with a record at the next place, where there is one
 abbrev pub placed : Record → Table → Fallible (Table × Option ℕ) Refusal

@@ -11,7 +11,6 @@ mod open; // open.rt: opening
 mod pull; // pull.rt: pull
 mod push; // push.rt: push
 mod reading; // reading.rt: readings
-mod stub;
 mod tested; // tested.rt: a state that passed the test
 
 use rules::{Answer, Record, Refusal};

@@ -1,7 +1,9 @@
 // Push: a leader puts a commit between a target and the records under it.
-ghost use Rattle.std.specs.Prelude.{◌≡◌};
-ghost use Rattle.rules.specs.Proposals.{push};
-ghost use Rattle.referee.specs.View.{view, seen, outcome, Meets};
+ghost use Rattle.std.specs.Prelude.{◌≡◌, ◌+◌, ◌≤◌, ◌<◌, length, reverse};
+ghost use Rattle.rules.specs.Tree.{path};
+ghost use Rattle.rules.specs.State.{entries};
+ghost use Rattle.rules.specs.Proposals.{push, before};
+ghost use Rattle.referee.specs.View.{view, seen, outcome, extended, regrouped, Meets};
 ghost use Rattle.referee.specs.Tested.{tested};
 ghost use Rattle.referee.specs.Rest.{target_of, pushed_on, committed_on};
 
@@ -17,7 +19,7 @@ impl Table {
     }
 
     // Refusals 16, 2, 6 and 7, and the rest.
-    #[tactic(auto, using(crate::proofs::Targets::pushed_on_lem), unfolding(rules::specs::Proposals::push, rules::specs::Proposals::push_on, crate::specs::Rest::pushed_on, crate::specs::Rest::committed_on))]
+    #[tactic(auto, using(crate::proofs::Targets::pushed_on_lem, crate::proofs::Targets::target_small), unfolding(rules::specs::Proposals::push, rules::specs::Proposals::push_on, crate::specs::Rest::pushed_on, crate::specs::Rest::committed_on))]
     fn pushed(&self, caller: u32, voters: u16, target: u32) -> Result<Done, Refusal>
         ensures { seen (outcome self.now result) ≡ push (view self.now) caller voters target }
     {
@@ -26,6 +28,29 @@ impl Table {
         table.head(caller)?;
         let (target, t) = table.target(caller, target)?;
         table.push_on(t, caller, voters, target)
+    }
+
+    // The state after the log gained the commands and changes on the path from record `last` down to the target.
+    #[tactic(auto, using(moves::proofs::Shown::written_all))]
+    fn gained(self, records: &[Record], last: usize, target: u8) -> Table
+        requires fits { self.length + length (entries records.now (before last (path records.now target))) ≤ 256 }
+        ensures { result ≡ extended (reverse (entries records.now (before last (path records.now target)))) self }
+    {
+        let end = self.length + moves::gains(records, last, usize::from(target));
+        let mut after = self;
+        moves::write_gained(&mut after.log[self.length..end], records, last, target);
+        after.length = end;
+        after
+    }
+
+    // The state after every child of the target became a child of a new record.
+    fn adopted(self, target: u8, new: u8) -> Table
+        ensures { result ≡ regrouped target new self }
+    {
+        let n = records::used(self.count);
+        let mut after = self;
+        moves::adopt(&mut after.records[..n], target, new);
+        after
     }
 }
 
@@ -47,6 +72,7 @@ impl Tested<'_> {
     // The rest of a push of the target, whose record is t: refusals 8, 3, 4 and 5, and the vote.
     #[tactic(auto, using(crate::proofs::Structs::view_voted), unfolding(crate::specs::Rest::pushed_on))]
     fn push_on(self, t: Record, caller: u8, voters: u16, target: u8) -> Result<Done, Refusal>
+        requires target_known { target < length self.records.now }
         ensures { seen (outcome self.entry.table.now result) ≡ pushed_on (tested self.entry) t caller voters target }
     {
         if searches::superseded(self.records, usize::from(caller), t) {
@@ -68,28 +94,27 @@ impl Tested<'_> {
     }
 
     // A push that a majority votes for: refusals 17 and 12, and the commit.
+    #[tactic(auto, using(crate::proofs::Commits::gain_fits, crate::proofs::Commits::committed_seen), unfolding(crate::specs::Rest::committed_on, rules::specs::Tree::latest_commit, rules::specs::State::full, rules::specs::State::places))]
     fn commit(self, t: Record, caller: u8, voters: u16, target: u8) -> Result<Done, Refusal>
+        requires target_known { target < length self.records.now }
         ensures { seen (outcome self.entry.table.now result) ≡ committed_on (tested self.entry) t caller voters target }
     {
-        let records = self.records;
-        let last = searches::number_of(searches::last_commit(records));
-        if !paths::on_path(records, last, usize::from(target)) {
+        let last = searches::number_of(searches::last_commit(self.records));
+        if !paths::on_path(self.records, last, usize::from(target)) {
             return Err(Refusal::OffBranch);
         }
-        let n = u8::try_from(records.len()).map_err(|_| Refusal::TableFull)?;
-        let start = self.table.length;
-        let end = start + super::stub::gains(records, last, usize::from(target));
-        let mut after = self.table.voted(voters, t.time);
-        super::stub::adopt(&mut after.records[..records.len()], target, n);
-        super::stub::write_gained(&mut after.log[start..end], records, last, target);
-        after.length = end;
-        after.add(Record {
-            parent: target,
-            caller,
-            time: t.time,
-            version: t.version,
-            members: t.members,
-            kind: Kind::Commit { voters },
-        })
+        let n = u8::try_from(self.records.len()).map_err(|_| Refusal::TableFull)?;
+        self.table
+            .gained(self.records, last, target)
+            .adopted(target, n)
+            .voted(voters, t.time)
+            .add(Record {
+                parent: target,
+                caller,
+                time: t.time,
+                version: t.version,
+                members: t.members,
+                kind: Kind::Commit { voters },
+            })
     }
 }

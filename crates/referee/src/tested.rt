@@ -42,7 +42,7 @@ impl Table {
     {
         let records = self.records.get(..self.count).ok_or(Refusal::NoTable)?;
         let log = self.log.get(..self.length).ok_or(Refusal::NoTable)?;
-        if !super::stub::is_table(self.clocks, records, log) {
+        if !tables::is_table(self.clocks, records, log) {
             return Err(Refusal::NoTable);
         }
         Ok(Tested {
