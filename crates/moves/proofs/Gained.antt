@@ -1,4 +1,4 @@
--- What a log gains: the entries on a path before its stop, and that there is a place for each.
+-- What a log gains: the entries on a path before its stop, in the library's words, and that there is a place for each.
 use Rattle.std.proofs.Common.{ℕ, zero, suc, ◌+◌, ◌≤◌, ◌<◌, ◌≡◌, Bool, true, false, cond, not, List, [], ◌∷◌, length, refl, sym, ap, ◌∙◌, arith}
 use Rattle.std.proofs.Math.Dec.{eqb}
 use Rattle.std.proofs.lemmas.List.Sums.{take_while-cons, length-filter, count_by-le-length}
@@ -12,7 +12,7 @@ use Rattle.rules.specs.Proposals.{before, gained}
 use Rattle.rules.proofs.Paths.{Rising}
 use Rattle.rules.proofs.Logs.{log_gains}
 
--- the part of a path before its stop, in the library's words
+-- the part of a path before its stop
 before_while : (stop : ℕ) (p : List ℕ) → before stop p ≡ take_while (λ j. not (eqb stop j)) p
 before_while stop [] = refl
 before_while stop (j ∷ p) = go (eqb stop j) (before_while stop p) ∙ sym (take_while-cons (λ j. not (eqb stop j)) j p)
@@ -23,7 +23,7 @@ before_while stop (j ∷ p) = go (eqb stop j) (before_while stop p) ∙ sym (tak
     go false e = ap (λ l. j ∷ l) e
 
 module _ (records : List Record) where
-  -- the entries of a list, in the library's words
+  -- the entries of a list
   entries_filter : (p : List ℕ) → entries records p ≡ filter (λ j. is_entry (at records j)) p
   entries_filter [] = refl
   entries_filter (j ∷ p) = ap (λ l. cond (is_entry (at records j)) (j ∷ l) l) (entries_filter p)

@@ -1,4 +1,4 @@
--- The records that the loop passed are moved, and those before it are as they were.
+-- The children among the records that the loop passed are moved, and the records after these are as they were.
 use Rattle.std.proofs.Common.{◌≡◌, map, ◌++◌, take, drop}
 use Rattle.rules.specs.Proposals.{adopted}
 use Rattle.moves.proofs.adopt.Given as goal

@@ -33,4 +33,4 @@ returns c =
     c.filter.ensures.closure
     (λ x b q k. search (rules, tests)))
     in
-    cc (gained_filter s.records.now s.stop p)
+    search (gained_filter s.records.now s.stop p)
