@@ -1,7 +1,7 @@
 -- A push's order of refusals, line by line: what each test of the code says of it.
 use Prim.Native.Nat.{ℕ, ◌≤◌, ◌<◌}
 use mathlib.Core.Path.{◌≡◌, refl, sym, ap, ◌∙◌}
-use mathlib.Core.Bool.{Bool, true, false, cond, not, ◌&&◌, ◌||◌}
+use mathlib.Core.Bool.{Bool, true, false, false≢true, cond, not, ◌&&◌, ◌||◌}
 use mathlib.Core.List.{List, [], ◌∷◌}
 use native.Mathlib.Omega.{arith}
 use borrow.Author.Tests.{lt-ltb, le-ltb, leb-false}
@@ -9,7 +9,10 @@ use lib.Dec.{eqb, leb}
 use lib.ListN.{length, take}
 use lib.Seq.{get_or-take}
 use Rattle.rules.specs.declared.Record.{Record}
-use Rattle.std.specs.Prelude.{Ok, Err}
+use Rattle.rules.specs.declared.Refusal.{Refusal}
+use Rattle.std.specs.Prelude.{Result as Fallible, Ok, Err, is_ok}
+use mathlib.Core.Logic.{⊎_elim}
+use Rattle.rules.proofs.Bools.{tested, or_left}
 use Rattle.rules.specs.declared.Answer.TheVariants.{Short}
 use Rattle.rules.specs.declared.Refusal.TheVariants.{NoSuchCaller, CallerAbsent, Stranger, ClockPast, NotLeading, BadTarget, Superseded, TableFull, NoTable, OffBranch}
 use Rattle.rules.specs.Nodes.{has}
@@ -70,22 +73,25 @@ module _ (s : State) (caller voters target : ℕ) where
             parted true a b x y done less = refl
             parted false a b x y done less = refl
 
+-- a target's number, and 0 where there is none
+number : Fallible (ℕ × Record) Refusal → ℕ
+number (Ok aim) = aim.0
+number (Err refusal) = 0
+
 -- a target is a record
 pub target_small : (s : State) (caller target i : ℕ) (t : Record) → target_of s caller target ≡ Ok (i, t) → i < length s.records
-unfolding bad_target
-target_small s caller target i t e = go (leb (length s.records) target) refl e
+unfolding bad_target number
+target_small s caller target i t e =
+    ⊎_elim
+    (λ past. absurd (false≢true (ap is_ok (sym (ap answer (or_left other past)) ∙ e))))
+    (λ there. ⊎_elim (λ bad. absurd (false≢true (ap is_ok (sym (ap answer (ap (λ b. b || other) there ∙ bad)) ∙ e)))) (λ good. let same = ap number (sym (ap answer (ap (λ b. b || other) there ∙ good)) ∙ e) in let l = leb-false (length s.records) target there in omega arith) (tested other))
+    (tested (leb (length s.records) target))
   where
+    answer : Bool → Fallible (ℕ × Record) Refusal
+    answer b = cond b (Err BadTarget) (Ok (target, at s.records target))
+
     -- what else makes a target bad
     other : Bool
     other =
         not (is_entry (at s.records target))
         || (not (called (at s.records target) caller) || not (eqb (at s.records target).time (clock s.clocks caller)))
-
-    go : (b : Bool) → leb (length s.records) target ≡ b → cond (b || other) (Err BadTarget) (Ok (target, at s.records target)) ≡ Ok (i, t)
-        → i < length s.records
-    go true l e = absurd (let z : ◌≡◌ {A = ℕ} 0 1 = cc in omega arith)
-    go false l e = within other e (leb-false (length s.records) target l)
-      where
-        within : (b : Bool) → cond b (Err BadTarget) (Ok (target, at s.records target)) ≡ Ok (i, t) → target < length s.records → i < length s.records
-        within true e k = absurd (let z : ◌≡◌ {A = ℕ} 0 1 = cc in omega arith)
-        within false e k = let same : target ≡ i = cc in omega arith

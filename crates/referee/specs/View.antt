@@ -55,7 +55,7 @@ extended gain t =
       clocks = t.clocks;
       records = t.records;
       count = t.count;
-      log = take t.length t.log ++ (gain ++ drop (t.length + length gain) t.log);
+      log = take t.length t.log ++ (gain ++ drop (length gain) (drop t.length t.log));
       length = t.length + length gain;
     }
 

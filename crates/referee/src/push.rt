@@ -44,12 +44,13 @@ impl Table {
     }
 
     // The state after every child of the target became a child of a new record.
+    #[tactic(auto, using(records::proofs::Places::used_small))]
     fn adopted(self, target: u8, new: u8) -> Table
         ensures { result ≡ regrouped target new self }
     {
         let n = records::used(self.count);
         let mut after = self;
-        moves::adopt(&mut after.records[..n], target, new);
+        moves::adopt(&mut after.records[0..n], target, new);
         after
     }
 }
@@ -94,7 +95,7 @@ impl Tested<'_> {
     }
 
     // A push that a majority votes for: refusals 17 and 12, and the commit.
-    #[tactic(auto, using(crate::proofs::Commits::gain_fits, crate::proofs::Commits::committed_seen), unfolding(crate::specs::Rest::committed_on, rules::specs::Tree::latest_commit, rules::specs::State::full, rules::specs::State::places))]
+    #[tactic(auto, using(crate::proofs::Commits::gain_fits, crate::proofs::Commits::moved_seen), unfolding(crate::specs::Rest::committed_on, rules::specs::Tree::latest_commit, rules::specs::State::full, rules::specs::State::places))]
     fn commit(self, t: Record, caller: u8, voters: u16, target: u8) -> Result<Done, Refusal>
         requires target_known { target < length self.records.now }
         ensures { seen (outcome self.entry.table.now result) ≡ committed_on (tested self.entry) t caller voters target }
