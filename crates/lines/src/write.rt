@@ -21,14 +21,12 @@ pub fn fits(numbers: &[u32], room: usize) -> bool
     ensures { result ≡ leb (length (spaced_all numbers.now)) room }
 {
     let mut free = room;
-    let mut i = 0;
-    while i < numbers.len() {
-        let count = width(numbers[i] as u64);
+    for &n in numbers {
+        let count = width(n as u64);
         if free <= count {
             return false;
         }
-        free = free - count - 1;
-        i += 1;
+        free -= count + 1;
     }
     true
 }
@@ -67,10 +65,8 @@ pub fn put_numbers(numbers: &[u32], at: usize, out: &mut [u8]) -> usize
         return at;
     }
     let mut place = at;
-    let mut i = 0;
-    while i < numbers.len() {
-        place = put_number(numbers[i] as u64, place, out);
-        i += 1;
+    for &n in numbers {
+        place = put_number(n as u64, place, out);
     }
     place
 }
