@@ -3,14 +3,15 @@ use Prim.Native.Nat.{ℕ, ◌+◌, ◌-◌, ◌*◌, ◌≤◌, ◌<◌}
 use native.Mathlib.Nat.{le_trans}
 use native.Mathlib.Numerals.{add-one}
 use native.Mathlib.Omega.{arith}
-use mathlib.Core.Path.{◌≡◌, refl, ◌∙◌}
+use mathlib.Core.Path.{◌≡◌, refl, sym, ◌∙◌}
 use mathlib.Core.Bool.{Bool, true, false, cond}
 use mathlib.Core.List.{List, [], ◌∷◌}
-use borrow.Author.Tests.{le-leb, lt-leb, lt-ltb, le-ltb, eq-eqb, ne_eqb}
+use borrow.Author.Tests.{le-leb, lt-leb, lt-ltb, le-ltb, eq-eqb, ne_eqb, leb-false}
+use lib.Dec.{leb}
 use lib.ListN.{length, drop, get_or, drop_of_length-le}
 use lib.Seq.{drop-cons}
-use Rattle.std.proofs.Common.{Option, Some, None}
-use Rattle.lines.specs.Numbers.{is_digit, digital, value_on, zero_led, is_numeral, within, digits_within, read}
+use Rattle.std.proofs.Common.{Option, Some, None, option_and_then}
+use Rattle.lines.specs.Numbers.{largest, largest_set, is_digit, digital, value_on, value, zero_led, is_numeral, within, digits_within, read}
 
 -- reading goes on with these bytes after digits that stand for n
 abbrev pub read_on : ℕ → ℕ → List ℕ → Option ℕ
@@ -29,24 +30,29 @@ read_past most n bytes l = go (digital bytes)
     go true = rw (lt-leb (value_on n bytes) most (omega (arith, value_on_le n bytes)))
     go false = refl
 
-module _ (most n : ℕ) (bytes : List ℕ) (i : ℕ) where
+-- digits are read up to a place, and stand for n
+module _ (most n : ℕ) (bytes : List ℕ) (i : ℕ) (at : read_on most n (drop i bytes) ≡ read_on most 0 bytes) where
+  -- the byte there is no digit
+  pub digits_other : i < length bytes → is_digit (get_or bytes i 0) ≡ false → digits_within most bytes ≡ None
+  unfolding digits_within value
+  digits_other l other = sym at ∙ rw (drop-cons bytes i 0 l, other)
+
   -- one digit more
-  pub read_more : i < length bytes → is_digit (get_or bytes i 0) ≡ true
-      → read_on most n (drop i bytes) ≡ read_on most (n * 10 + (get_or bytes i 0 - 48)) (drop (i + 1) bytes)
-  read_more l digit = rw (add-one, drop-cons bytes i 0 l, digit)
+  pub digits_more : i < length bytes → is_digit (get_or bytes i 0) ≡ true
+      → read_on most (n * 10 + (get_or bytes i 0 - 48)) (drop (i + 1) bytes) ≡ read_on most 0 bytes
+  digits_more l digit = sym (rw (add-one, drop-cons bytes i 0 l, digit)) ∙ at
 
   -- one digit too many
-  pub read_over : i < length bytes → is_digit (get_or bytes i 0) ≡ true → most < n * 10 + (get_or bytes i 0 - 48)
-      → read_on most n (drop i bytes) ≡ None
-  read_over l digit past = read_more l digit ∙ read_past most (n * 10 + (get_or bytes i 0 - 48)) (drop (i + 1) bytes) past
-
-  -- a byte that is no digit
-  pub read_other : i < length bytes → is_digit (get_or bytes i 0) ≡ false → read_on most n (drop i bytes) ≡ None
-  read_other l other = rw (drop-cons bytes i 0 l, other)
+  pub digits_over : i < length bytes → is_digit (get_or bytes i 0) ≡ true → most < n * 10 + (get_or bytes i 0 - 48)
+      → digits_within most bytes ≡ None
+  unfolding digits_within value
+  digits_over l digit past =
+      sym (digits_more l digit) ∙ read_past most (n * 10 + (get_or bytes i 0 - 48)) (drop (i + 1) bytes) past
 
   -- the end of the digits
-  pub read_end : length bytes ≤ i → n ≤ most → read_on most n (drop i bytes) ≡ Some n
-  read_end l m = rw (drop_of_length-le bytes l, le-leb n most m)
+  pub digits_end : length bytes ≤ i → n ≤ most → digits_within most bytes ≡ Some n
+  unfolding digits_within value
+  digits_end l m = sym at ∙ rw (drop_of_length-le bytes l, le-leb n most m)
 
 module _ (most : ℕ) (word : List ℕ) where
   -- no digit at all
@@ -69,3 +75,15 @@ module _ (most : ℕ) (word : List ℕ) where
   unfolding read is_numeral zero_led digits_within
   read_many l d = rw (lt-ltb 0 (length word) (omega arith), lt-ltb 1 (length word) l, ne_eqb (get_or word 0 0) 48 d)
 
+
+-- a set is a number at most 65535
+pub read_set : (word : List ℕ) → read largest_set word ≡ option_and_then (within largest_set) (read largest word)
+unfolding read
+read_set word = go (is_numeral word) (leb (value word) largest) refl
+  where
+    go : (s t : Bool) → leb (value word) largest ≡ t
+        → cond s (within largest_set (value word)) None
+        ≡ option_and_then (within largest_set) (cond s (cond t (Some (value word)) None) None)
+    go true true e = refl
+    go true false e = rw (lt-leb (value word) largest_set (omega (arith, leb-false (value word) largest e)))
+    go false t e = refl

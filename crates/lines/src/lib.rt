@@ -22,6 +22,7 @@ pub enum Line {
 }
 
 // `O set`, after the letter's space.
+#[tactic(auto, using(crate::proofs::Parts::one_set))]
 fn open_with(rest: &[u8]) -> Option<Line>
     ensures { result ≡ open_with (one largest_set (words rest.now)) }
 {
@@ -30,6 +31,7 @@ fn open_with(rest: &[u8]) -> Option<Line>
 }
 
 // `P caller set time`.
+#[tactic(auto, using(crate::proofs::Parts::three_set))]
 fn pull(rest: &[u8]) -> Option<Line>
     ensures { result ≡ pull_of (three largest largest_set largest (words rest.now)) }
 {
@@ -47,6 +49,7 @@ fn invoke(rest: &[u8]) -> Option<Line>
 }
 
 // `R caller set`.
+#[tactic(auto, using(crate::proofs::Parts::two_set))]
 fn reconfigure(rest: &[u8]) -> Option<Line>
     ensures { result ≡ reconfigure_of (two largest largest_set (words rest.now)) }
 {
@@ -56,6 +59,7 @@ fn reconfigure(rest: &[u8]) -> Option<Line>
 }
 
 // `C caller set target`.
+#[tactic(auto, using(crate::proofs::Parts::three_set))]
 fn push(rest: &[u8]) -> Option<Line>
     ensures { result ≡ push_of (three largest largest_set largest (words rest.now)) }
 {
@@ -65,6 +69,7 @@ fn push(rest: &[u8]) -> Option<Line>
 }
 
 // A letter with parts after it.
+#[tactic(auto, unfolding(crate::specs::Parse::lettered))]
 fn lettered(letter: u8, rest: &[u8]) -> Option<Line>
     ensures { result ≡ lettered letter (words rest.now) }
 {
@@ -79,6 +84,7 @@ fn lettered(letter: u8, rest: &[u8]) -> Option<Line>
 }
 
 // What does a line ask, if it is of the form? These are its bytes before the newline.
+#[tactic(auto, using(crate::proofs::Letters::too_long, crate::proofs::Letters::no_bytes, crate::proofs::Letters::alone_open, crate::proofs::Letters::alone_bad, crate::proofs::Letters::no_space, crate::proofs::Letters::parts_after))]
 pub fn parse(line: &[u8]) -> Option<Line>
     ensures { result ≡ parsed line.now }
 {
