@@ -40,7 +40,7 @@ line_joined : (b c : ℕ) (rest : List ℕ) → (c ≡ 32 → ⊥) → line_of (
 line_joined b c rest d = rw (ne_eqb c 32 d) (go (eqb b 32))
   where
     go : (t : Bool) → line_of (cond t ([] ∷ onto_first c (words rest)) (onto_first b (onto_first c (words rest)))) ≡ None
-    go true = let more = words_some rest in rw more.2
+    go true = refl
     go false = line_glued b c rest
 
 line_alone : (b : ℕ) → line_of (words (b ∷ [])) ≡ cond (eqb b 79) (Some (Open 7)) None

@@ -71,7 +71,7 @@ three_set (v ∷ w ∷ x ∷ []) = rw (read_set w) (go (read largest v) (read la
         → all l (both (option_and_then (within largest_set) m) n)
         ≡ option_and_then (λ p. all (Some p.0) (both (within largest_set p.1) (Some p.2))) (all l (both m n))
     go (Some l) (Some m) (Some n) = refl
-    go (Some l) (Some m) None = ?
+    go (Some l) (Some m) None = rw (both_none (within largest_set m))
     go (Some l) None n = refl
     go None m n = refl
 three_set (v ∷ w ∷ x ∷ y ∷ more) = refl

@@ -124,6 +124,7 @@ pub fn print_bad(out: &mut [u8]) -> usize
 }
 
 // The last line, with the log's length and entries, likewise.
+#[tactic(auto, using(crate::proofs::Digits::digits_count, crate::proofs::Printed::log_none, crate::proofs::Printed::log_room, crate::proofs::Printed::log_put))]
 pub fn print_log(log: &[u32], out: &mut [u8]) -> usize
     ensures { outcome out.new result ≡ put (log_line log.now) 0 out.old }
 {

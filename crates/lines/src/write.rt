@@ -4,6 +4,7 @@ ghost use Rattle.lines.specs.Numbers.{digits};
 ghost use Rattle.lines.specs.Print.{line, spaced, spaced_all, outcome, put};
 
 // How many digits has a number?
+#[tactic(auto, using(crate::proofs::Digits::digits_one, crate::proofs::Digits::digits_longer))]
 pub fn width(n: u64) -> usize
     ensures { result ≡ length (digits n) }
 {
@@ -55,6 +56,7 @@ pub fn put_number(n: u64, at: usize, out: &mut [u8]) -> usize
 }
 
 // Numbers with a space before each, at a place of the buffer. Answers the place after them.
+#[tactic(auto, using(crate::proofs::Laid::put_none, crate::proofs::Printed::number_put, crate::proofs::Printed::numbers_put))]
 pub fn put_numbers(numbers: &[u32], at: usize, out: &mut [u8]) -> usize
     ensures { outcome out.new result ≡ put (spaced_all numbers.now) at out.old }
 {
@@ -72,6 +74,7 @@ pub fn put_numbers(numbers: &[u32], at: usize, out: &mut [u8]) -> usize
 }
 
 // The line of a letter and a number, at the front of the buffer.
+#[tactic(auto, using(crate::proofs::Digits::digits_count, crate::proofs::Printed::numbered_none, crate::proofs::Printed::numbered_room, crate::proofs::Printed::numbered_put))]
 pub fn put_numbered(letter: u8, n: u32, out: &mut [u8]) -> usize
     ensures { outcome out.new result ≡ put (line letter (spaced n)) 0 out.old }
 {
@@ -87,6 +90,7 @@ pub fn put_numbered(letter: u8, n: u32, out: &mut [u8]) -> usize
 }
 
 // The line of a letter alone.
+#[tactic(auto, using(crate::proofs::Laid::put_whole, crate::proofs::Laid::put_none))]
 pub fn put_letter(letter: u8, out: &mut [u8]) -> usize
     ensures { outcome out.new result ≡ put (line letter []) 0 out.old }
 {
