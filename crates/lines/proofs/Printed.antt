@@ -25,8 +25,8 @@ line_none : (letter : ℕ) (rest buffer : List ℕ) → length buffer < length r
 line_none letter rest buffer l = put_none (line letter rest) 0 buffer (omega (arith, length-append rest (10 ∷ [])))
 
 -- a letter and then a number are put
-module _ (letter n : ℕ) (buffer out : List ℕ) (next : ℕ) (room : length (digits n) + 3 ≤ length buffer)
-    (q : outcome out next ≡ put (spaced n) 1 (set buffer 0 letter)) where
+module _ (letter n : ℕ) (buffer out : List ℕ) (next : ℕ)
+    (q : outcome out next ≡ put (spaced n) 1 (set buffer 0 letter)) (room : length (digits n) + 3 ≤ length buffer) where
   head_fits : 1 + length (spaced n) ≤ length (set buffer 0 letter)
   head_fits = simp length-set (omega arith)
 
@@ -38,8 +38,8 @@ module _ (letter n : ℕ) (buffer out : List ℕ) (next : ℕ) (room : length (d
   )
 
   -- the newline has its place
-  pub numbered_room : next < length out
-  numbered_room = omega (arith, head_put.1, head_put.2)
+  pub numbered_room : (next < length out) × (length out ≡ length buffer)
+  numbered_room = (omega (arith, head_put.1, head_put.2), head_put.2)
 
   pub numbered_put : outcome (set out next 10) (next + 1) ≡ put (line letter (spaced n)) 0 buffer
   numbered_put = line_put letter (spaced n) buffer out next (omega arith) head_put.0 head_put.1
@@ -97,10 +97,10 @@ numbers_put numbers i at buffer out place l room e f =
 
 -- the log's line, once its length and its entries are put, whatever the letter
 module _ (log buffer middle out : List ℕ) (letter next end : ℕ)
-    (room : length (digits (length log)) + 3 + length (spaced_all log) ≤ length buffer)
-    (p : outcome middle next ≡ put (spaced (length log)) 1 (set buffer 0 letter)) (q : outcome out end ≡ put (spaced_all log) next middle) where
+    (q : outcome out end ≡ put (spaced_all log) next middle) (p : outcome middle next ≡ put (spaced (length log)) 1 (set buffer 0 letter))
+    (room : length (digits (length log)) + 3 + length (spaced_all log) ≤ length buffer) where
   head : (middle ≡ laid 1 (spaced (length log)) (set buffer 0 letter)) × (next ≡ 1 + length (spaced (length log))) × (length middle ≡ length buffer)
-  head = head_put letter (length log) buffer middle next (omega arith) p
+  head = head_put letter (length log) buffer middle next p (omega arith)
 
   log_fits : next + length (spaced_all log) ≤ length middle
   log_fits = omega (arith, head.1, head.2)
@@ -121,15 +121,10 @@ module _ (log buffer middle out : List ℕ) (letter next end : ℕ)
       ∙ sym (laid_append 1 (spaced (length log)) (spaced_all log) (set buffer 0 letter))
 
   -- the newline has its place
-  pub log_room : end < length out
+  pub log_room : (end < length out) × (length out ≡ length buffer)
   log_room =
-      omega (
-        arith,
-        log_end,
-        put_length (spaced_all log) next middle out end log_fits q,
-        head.2,
-        length-append (spaced (length log)) (spaced_all log),
-      )
+      let kept = put_length (spaced_all log) next middle out end log_fits q ∙ head.2 in
+      (omega (arith, log_end, kept, length-append (spaced (length log)) (spaced_all log)), kept)
 
   pub log_put : outcome (set out end 10) (end + 1) ≡ put (line letter (spaced_all (length log ∷ log))) 0 buffer
   log_put =
