@@ -1,13 +1,12 @@
 -- A line by its first two bytes: a letter alone, a letter and a space, or neither.
 use Prim.Native.Nat.{ℕ, ◌-◌, ◌≤◌, ◌<◌}
-use native.Mathlib.Nat.{le_refl}
 use native.Mathlib.Omega.{arith}
 use mathlib.Core.Path.{◌≡◌, refl, sym, ◌∙◌}
 use mathlib.Core.Bool.{Bool, true, false, cond}
 use mathlib.Core.List.{List, [], ◌∷◌}
 use borrow.Author.Tests.{lt-ltb, le-ltb, eq-eqb, ne_eqb, eqb-true}
 use lib.Dec.{eqb}
-use lib.ListN.{length, get_or, take, drop, length-drop}
+use lib.ListN.{length, get_or, take, drop}
 use lib.Seq.{take_all}
 use Rattle.std.proofs.Common.{Some, None}
 use Rattle.std.specs.List.{onto_first}
@@ -89,4 +88,7 @@ parts_after [] l m e = absurd (omega arith)
 parts_after (b ∷ []) l m e = absurd (omega arith)
 parts_after (b ∷ c ∷ line) l m e =
     rw (take_all (length (b ∷ c ∷ line) - 2) (drop 2 (b ∷ c ∷ line)) (omega arith))
-        (short_enough (b ∷ c ∷ line) m ∙ line_spaced b c line e)
+    (short_enough (b ∷ c ∷ line) m ∙ line_spaced b c line e)
+
+-- a line by its letter and what stands after it
+pub ruleset by_letters = (too_long, no_bytes, alone_open, alone_bad, no_space, parts_after)

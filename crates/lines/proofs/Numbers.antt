@@ -1,7 +1,6 @@
 -- Reading a numeral, digit by digit.
-use Prim.Native.Nat.{ℕ, ◌+◌, ◌-◌, ◌*◌, ◌≤◌, ◌<◌}
+use Prim.Native.Nat.{ℕ, suc, ◌+◌, ◌-◌, ◌*◌, ◌≤◌, ◌<◌}
 use native.Mathlib.Nat.{le_trans}
-use native.Mathlib.Numerals.{add-one}
 use native.Mathlib.Omega.{arith}
 use mathlib.Core.Path.{◌≡◌, refl, sym, ◌∙◌}
 use mathlib.Core.Bool.{Bool, true, false, cond}
@@ -37,17 +36,12 @@ module _ (most n : ℕ) (bytes : List ℕ) (i : ℕ) (at : read_on most n (drop 
   unfolding digits_within value
   digits_other l other = sym at ∙ rw (drop-cons bytes i 0 l, other)
 
-  -- one digit more
-  pub digits_more : i < length bytes → is_digit (get_or bytes i 0) ≡ true
-      → read_on most (n * 10 + (get_or bytes i 0 - 48)) (drop (i + 1) bytes) ≡ read_on most 0 bytes
-  digits_more l digit = sym (rw (add-one, drop-cons bytes i 0 l, digit)) ∙ at
-
   -- one digit too many
   pub digits_over : i < length bytes → is_digit (get_or bytes i 0) ≡ true → most < n * 10 + (get_or bytes i 0 - 48)
       → digits_within most bytes ≡ None
   unfolding digits_within value
   digits_over l digit past =
-      sym (digits_more l digit) ∙ read_past most (n * 10 + (get_or bytes i 0 - 48)) (drop (i + 1) bytes) past
+      sym at ∙ rw (drop-cons bytes i 0 l, digit) (read_past most (n * 10 + (get_or bytes i 0 - 48)) (drop (suc i) bytes) past)
 
   -- the end of the digits
   pub digits_end : length bytes ≤ i → n ≤ most → digits_within most bytes ≡ Some n
@@ -75,6 +69,8 @@ module _ (most : ℕ) (word : List ℕ) where
   unfolding read is_numeral zero_led digits_within
   read_many l d = rw (lt-ltb 0 (length word) (omega arith), lt-ltb 1 (length word) l, ne_eqb (get_or word 0 0) 48 d)
 
+-- a word by how many bytes it has and what the first is
+pub ruleset by_numeral = (read_none, read_led, read_one, read_many)
 
 -- a set is a number at most 65535
 pub read_set : (word : List ℕ) → read largest_set word ≡ option_and_then (within largest_set) (read largest word)

@@ -2,14 +2,14 @@
 use Prim.Native.Nat.{ℕ, suc, ◌+◌, ◌-◌, ◌≤◌}
 use native.Mathlib.Nat.{le_refl}
 use native.Mathlib.Omega.{arith}
-use mathlib.Core.Path.{◌≡◌, refl, ◌∙◌}
+use mathlib.Core.Path.{◌≡◌, refl}
 use mathlib.Core.Bool.{Bool, true, false, cond, not}
 use mathlib.Core.List.{List, [], ◌∷◌}
 use borrow.Author.Tests.{ltb-true, ltb-false}
 use lib.Dec.{ltb}
 use lib.ListN.{length, take, drop, length-drop}
 use lib.Seq.{take_all}
-use Rattle.std.proofs.Common.{Option, Some, None}
+use Rattle.std.proofs.Common.{Some, None}
 use Rattle.std.specs.List.{position, position_or_len, onto_first}
 use Rattle.std.proofs.lemmas.List.Splits.{slice_split_first}
 use Rattle.std.proofs.lemmas.Option.{cond_some}
@@ -51,4 +51,4 @@ module _ (bytes : List ℕ) where
   words_split end e =
       let found = cond_some (ltb (position_or_len space bytes) (length bytes)) (position_or_len space bytes) end e in
       rw (take_all (length bytes - (end + 1)) (drop (end + 1) bytes) (rw length-drop (le_refl (length bytes - (end + 1)))), ← found.1)
-          (slice_split_first space bytes 0 (ltb-true (position_or_len space bytes) (length bytes) found.0))
+      (slice_split_first space bytes 0 (ltb-true (position_or_len space bytes) (length bytes) found.0))

@@ -37,7 +37,11 @@ fn pull(rest: &[u8]) -> Option<Line>
 {
     let (caller, set, time) = read::triple(rest)?;
     let voters = u16::try_from(set).ok()?;
-    Some(Line::Propose(Proposal::Pull { caller, voters, time }))
+    Some(Line::Propose(Proposal::Pull {
+        caller,
+        voters,
+        time,
+    }))
 }
 
 // `I caller command`.
@@ -65,7 +69,11 @@ fn push(rest: &[u8]) -> Option<Line>
 {
     let (caller, set, target) = read::triple(rest)?;
     let voters = u16::try_from(set).ok()?;
-    Some(Line::Propose(Proposal::Push { caller, voters, target }))
+    Some(Line::Propose(Proposal::Push {
+        caller,
+        voters,
+        target,
+    }))
 }
 
 // A letter with parts after it.
@@ -84,7 +92,7 @@ fn lettered(letter: u8, rest: &[u8]) -> Option<Line>
 }
 
 // What does a line ask, if it is of the form? These are its bytes before the newline.
-#[tactic(auto, using(crate::proofs::Letters::too_long, crate::proofs::Letters::no_bytes, crate::proofs::Letters::alone_open, crate::proofs::Letters::alone_bad, crate::proofs::Letters::no_space, crate::proofs::Letters::parts_after))]
+#[tactic(auto, using(crate::proofs::Letters::by_letters))]
 pub fn parse(line: &[u8]) -> Option<Line>
     ensures { result ≡ parsed line.now }
 {
@@ -106,6 +114,7 @@ pub fn number(refusal: Refusal) -> u32
 }
 
 // The line of an answer, at the front of the buffer. Answers how many bytes it has, or 0 where it doesn't fit.
+// The buffer is lent, and `put` says each byte of it: the replay program's memory is fixed.
 pub fn print(answer: Answer, out: &mut [u8]) -> usize
     ensures { outcome out.new result ≡ put (answer_line answer) 0 out.old }
 {
@@ -124,7 +133,7 @@ pub fn print_bad(out: &mut [u8]) -> usize
 }
 
 // The last line, with the log's length and entries, likewise.
-#[tactic(auto, using(crate::proofs::Digits::digits_count, crate::proofs::Printed::log_none, crate::proofs::Printed::log_room, crate::proofs::Printed::log_put))]
+#[tactic(auto, using(crate::proofs::Digits::digits_count, crate::proofs::Printed::log_none, crate::proofs::Printed::log_put))]
 pub fn print_log(log: &[u32], out: &mut [u8]) -> usize
     ensures { outcome out.new result ≡ put (log_line log.now) 0 out.old }
 {

@@ -14,7 +14,7 @@ fn front(bytes: &[u8]) -> Option<usize>
 
 // The part before the first space and what stands after it, where there is a space.
 #[tactic(auto, using(crate::proofs::Words::words_whole, crate::proofs::Words::words_split))]
-fn parted(rest: &[u8]) -> Option<(&[u8], &[u8])>
+fn split_once(rest: &[u8]) -> Option<(&[u8], &[u8])>
     ensures apart { IfSome result (λ parts. words rest.now ≡ parts.0.now ∷ words parts.1.now) }
     ensures whole { IsNone result → words rest.now ≡ rest.now ∷ [] }
 {
@@ -38,7 +38,7 @@ fn digits(word: &[u8]) -> Option<u32>
 }
 
 // The number that a word is, where it is a numeral.
-#[tactic(auto, using(crate::proofs::Numbers::read_none, crate::proofs::Numbers::read_one, crate::proofs::Numbers::read_led, crate::proofs::Numbers::read_many))]
+#[tactic(auto, using(crate::proofs::Numbers::by_numeral))]
 fn numeral(word: &[u8]) -> Option<u32>
     ensures { result ≡ read largest word.now }
 {
@@ -53,7 +53,7 @@ fn numeral(word: &[u8]) -> Option<u32>
 pub fn only(rest: &[u8]) -> Option<u32>
     ensures { result ≡ one largest (words rest.now) }
 {
-    match parted(rest) {
+    match split_once(rest) {
         Some(_) => None,
         None => numeral(rest),
     }
@@ -64,7 +64,7 @@ pub fn only(rest: &[u8]) -> Option<u32>
 pub fn pair(rest: &[u8]) -> Option<(u32, u32)>
     ensures { result ≡ two largest largest (words rest.now) }
 {
-    let (first, others) = parted(rest)?;
+    let (first, others) = split_once(rest)?;
     Some((numeral(first)?, only(others)?))
 }
 
@@ -73,7 +73,7 @@ pub fn pair(rest: &[u8]) -> Option<(u32, u32)>
 pub fn triple(rest: &[u8]) -> Option<(u32, u32, u32)>
     ensures { result ≡ three largest largest largest (words rest.now) }
 {
-    let (first, others) = parted(rest)?;
+    let (first, others) = split_once(rest)?;
     let number = numeral(first)?;
     let (second, third) = pair(others)?;
     Some((number, second, third))

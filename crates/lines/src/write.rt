@@ -11,7 +11,7 @@ pub fn width(n: u64) -> usize
     let mut rest = n;
     let mut count: usize = 1;
     while rest >= 10 {
-        rest = rest / 10;
+        rest /= 10;
         count += 1;
     }
     count
@@ -33,6 +33,7 @@ pub fn fits(numbers: &[u32], room: usize) -> bool
 }
 
 // A number with the space before it, at a place of the buffer, from its last digit on. Answers the place after it.
+#[tactic(auto, using(crate::proofs::Laid::put_none, crate::proofs::Laid::put_whole, crate::proofs::Digits::digits_longer, crate::proofs::Laid::first_laid))]
 pub fn put_number(n: u64, at: usize, out: &mut [u8]) -> usize
     ensures { outcome out.new result ≡ put (spaced n) at out.old }
 {
@@ -47,7 +48,7 @@ pub fn put_number(n: u64, at: usize, out: &mut [u8]) -> usize
     let mut place = at + count;
     while rest >= 10 {
         out[place] = b'0' + (rest % 10) as u8;
-        rest = rest / 10;
+        rest /= 10;
         place -= 1;
     }
     out[place] = b'0' + rest as u8;
@@ -56,7 +57,7 @@ pub fn put_number(n: u64, at: usize, out: &mut [u8]) -> usize
 }
 
 // Numbers with a space before each, at a place of the buffer. Answers the place after them.
-#[tactic(auto, using(crate::proofs::Laid::put_none, crate::proofs::Printed::number_put, crate::proofs::Printed::numbers_put))]
+#[tactic(auto, using(crate::proofs::Laid::put_none, crate::proofs::Printed::numbers_put))]
 pub fn put_numbers(numbers: &[u32], at: usize, out: &mut [u8]) -> usize
     ensures { outcome out.new result ≡ put (spaced_all numbers.now) at out.old }
 {
@@ -74,7 +75,7 @@ pub fn put_numbers(numbers: &[u32], at: usize, out: &mut [u8]) -> usize
 }
 
 // The line of a letter and a number, at the front of the buffer.
-#[tactic(auto, using(crate::proofs::Digits::digits_count, crate::proofs::Printed::numbered_none, crate::proofs::Printed::numbered_room, crate::proofs::Printed::numbered_put))]
+#[tactic(auto, using(crate::proofs::Digits::digits_count, crate::proofs::Printed::numbered_none, crate::proofs::Printed::numbered_put))]
 pub fn put_numbered(letter: u8, n: u32, out: &mut [u8]) -> usize
     ensures { outcome out.new result ≡ put (line letter (spaced n)) 0 out.old }
 {
