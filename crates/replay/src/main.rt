@@ -11,6 +11,7 @@ use std::io;
 use std::io::{Read, Stdout, Write};
 
 // Lines of output that wait to be written: so many bytes of the buffer.
+#[derive(Drop)]
 struct Output {
     bytes: [u8; 65536],
     length: usize,
@@ -38,6 +39,7 @@ impl Output {
 }
 
 // The present table, none before the first accepted opening, and the line begun: so many bytes.
+#[derive(Drop)]
 struct Session {
     table: Option<Table>,
     line: [u8; 64],

@@ -1,0 +1,11 @@
+-- What is put is within the buffer.
+use native.Mathlib.Omega.{arith}
+use Rattle.std.proofs.lemmas.Grind.{common_steps}
+use Rattle.lines.proofs.Laid.{put_within}
+use Rattle.replay.proofs.Output.put_bad.Goals as goal
+
+pub overflow_add-self : goal.overflow_add-self
+overflow_add-self c = grind (arith, common_steps, put_within _ _ _ _ c.print_bad.ensures)
+
+pub invariant_of-self : goal.invariant_of-self
+invariant_of-self c = record { within = grind (arith, common_steps, put_within _ _ _ _ c.print_bad.ensures) }
