@@ -71,12 +71,11 @@ module _ (bytes : List ℕ) (at : ℕ) (buffer out : List ℕ) (next : ℕ) (l :
   put_length = ap length put_buffer ∙ laid_length at bytes buffer
 
 -- from the front of a buffer on, the place after the bytes is in it or at its end
-pub put_within : (bytes buffer out : List ℕ) (next : ℕ) → outcome out next ≡ put bytes 0 buffer → next ≤ length buffer
+pub put_within : (bytes buffer : List ℕ) → (put bytes 0 buffer).next ≤ length buffer
 unfolding put
-put_within bytes buffer out next q = go (leb (0 + length bytes) (length buffer)) refl q
+put_within bytes buffer = go (leb (0 + length bytes) (length buffer)) refl
   where
     go : (t : Bool) → leb (0 + length bytes) (length buffer) ≡ t
-        → outcome out next ≡ cond t (outcome (laid 0 bytes buffer) (0 + length bytes)) (outcome buffer 0)
-        → next ≤ length buffer
-    go true e f = omega (arith, leb-true (0 + length bytes) (length buffer) e, ap (λ (p : Put). p.next) f)
-    go false e f = omega (arith, ap (λ (p : Put). p.next) f)
+        → (cond t (outcome (laid 0 bytes buffer) (0 + length bytes)) (outcome buffer 0)).next ≤ length buffer
+    go true e = leb-true (0 + length bytes) (length buffer) e
+    go false e = omega arith

@@ -18,6 +18,7 @@ struct Output {
     ghost within: { length ≤ 65536 },
 }
 
+#[tactic(auto, using(std::proofs::lemmas::Grind::common_steps, lines::proofs::Laid::put_within))]
 impl Output {
     fn put_answer(&mut self, answer: Answer) {
         self.length += lines::print(answer, &mut self.bytes[self.length..]);
