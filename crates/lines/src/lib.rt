@@ -133,7 +133,7 @@ pub fn print_bad(out: &mut [u8]) -> usize
 }
 
 // The last line, with the log's length and entries, likewise.
-#[tactic(auto, using(crate::proofs::Digits::digits_count, crate::proofs::Printed::log_none, crate::proofs::Printed::log_put))]
+#[tactic(auto, using(std::proofs::lemmas::Grind::common_steps, crate::proofs::Digits::digits_count, crate::proofs::Laid::put_whole, crate::proofs::Printed::log_none, crate::proofs::Printed::log_put))]
 pub fn print_log(log: &[u32], out: &mut [u8]) -> usize
     ensures { outcome out.new result ≡ put (log_line log.now) 0 out.old }
 {

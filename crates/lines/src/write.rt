@@ -75,7 +75,7 @@ pub fn put_numbers(numbers: &[u32], at: usize, out: &mut [u8]) -> usize
 }
 
 // The line of a letter and a number, at the front of the buffer.
-#[tactic(auto, using(crate::proofs::Digits::digits_count, crate::proofs::Printed::numbered_none, crate::proofs::Printed::numbered_put))]
+#[tactic(auto, using(std::proofs::lemmas::Grind::common_steps, crate::proofs::Digits::digits_count, crate::proofs::Laid::put_whole, crate::proofs::Printed::numbered_none, crate::proofs::Printed::numbered_put))]
 pub fn put_numbered(letter: u8, n: u32, out: &mut [u8]) -> usize
     ensures { outcome out.new result ≡ put (line letter (spaced n)) 0 out.old }
 {
