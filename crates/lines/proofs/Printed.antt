@@ -37,10 +37,6 @@ module _ (letter n : ℕ) (buffer out : List ℕ) (next : ℕ)
     put_length (spaced n) 1 (set buffer 0 letter) out next head_fits q ∙ length-set buffer 0 letter,
   )
 
-  -- the newline has its place
-  pub numbered_room : (next < length out) × (length out ≡ length buffer)
-  numbered_room = (omega (arith, head_put.1, head_put.2), head_put.2)
-
   pub numbered_put : outcome (set out next 10) (next + 1) ≡ put (line letter (spaced n)) 0 buffer
   numbered_put = line_put letter (spaced n) buffer out next (omega arith) head_put.0 head_put.1
 
@@ -119,12 +115,6 @@ module _ (log buffer middle out : List ℕ) (letter next end : ℕ)
       put_buffer (spaced_all log) next middle out end log_fits q
       ∙ ap₂ (λ (n : ℕ) (l : List ℕ). laid n (spaced_all log) l) head.1 head.0
       ∙ sym (laid_append 1 (spaced (length log)) (spaced_all log) (set buffer 0 letter))
-
-  -- the newline has its place
-  pub log_room : (end < length out) × (length out ≡ length buffer)
-  log_room =
-      let kept = put_length (spaced_all log) next middle out end log_fits q ∙ head.2 in
-      (omega (arith, log_end, kept, length-append (spaced (length log)) (spaced_all log)), kept)
 
   pub log_put : outcome (set out end 10) (end + 1) ≡ put (line letter (spaced_all (length log ∷ log))) 0 buffer
   log_put =
