@@ -3,8 +3,10 @@ use Prim.Native.Nat.{ℕ, suc, ◌+◌, ◌/◌, ◌%◌, ◌≤◌, ◌<◌}
 use native.Mathlib.Nat.{add-zero}
 use native.Mathlib.Omega.{arith}
 use mathlib.Core.Path.{◌≡◌, refl, sym, ap, ◌∙◌}
+use mathlib.Core.Bool.{Bool, true, false, cond}
 use mathlib.Core.List.{List, [], ◌∷◌, ◌++◌}
-use borrow.Author.Tests.{le-leb, lt-leb}
+use borrow.Author.Tests.{le-leb, lt-leb, leb-true}
+use lib.Dec.{leb}
 use lib.ListN.{length, set, length-set}
 use lib.Seq.{set_comm}
 use Rattle.lines.specs.Numbers.{digits}
@@ -67,3 +69,13 @@ module _ (bytes : List ℕ) (at : ℕ) (buffer out : List ℕ) (next : ℕ) (l :
 
   pub put_length : length out ≡ length buffer
   put_length = ap length put_buffer ∙ laid_length at bytes buffer
+
+-- from the front of a buffer on, the place after the bytes is in it or at its end
+pub put_within : (bytes buffer : List ℕ) → (put bytes 0 buffer).next ≤ length buffer
+unfolding put
+put_within bytes buffer = go (leb (0 + length bytes) (length buffer)) refl
+  where
+    go : (t : Bool) → leb (0 + length bytes) (length buffer) ≡ t
+        → (cond t (outcome (laid 0 bytes buffer) (0 + length bytes)) (outcome buffer 0)).next ≤ length buffer
+    go true e = leb-true (0 + length bytes) (length buffer) e
+    go false e = omega arith

@@ -1,101 +1,76 @@
 -- The parts of a line, one after the other.
-use Prim.Native.Nat.{ℕ, suc, ◌+◌, ◌-◌, ◌≤◌, ◌<◌}
-use native.Mathlib.Nat.{le_refl}
-use native.Mathlib.Numerals.{add-one}
-use native.Mathlib.Omega.{arith}
-use mathlib.Core.Path.{◌≡◌, refl, sym, ◌∙◌}
+use Prim.Native.Nat.{ℕ}
+use mathlib.Core.Path.{◌≡◌, refl, sym}
 use mathlib.Core.List.{List, [], ◌∷◌}
-use lib.ListN.{length, take, drop, length-drop}
-use lib.Seq.{take_all}
-use Rattle.lines.specs.declared.read.One.{One}
-use Rattle.lines.specs.declared.read.Two.{Two}
-use Rattle.lines.specs.declared.read.Three.{Three}
-use Rattle.lines.specs.Words.{words, front}
-use Rattle.lines.specs.Numbers.{read}
+use Rattle.std.proofs.Common.{Option, Some, None, option_and_then}
+use Rattle.lines.specs.Words.{words}
+use Rattle.lines.specs.Numbers.{largest, largest_set, within, read}
 use Rattle.lines.specs.Parts.{both, all, one, two, three}
-use Rattle.lines.proofs.Numbers.{read_le}
-use Rattle.lines.proofs.Words.{words_split, words_whole, words_some}
+use Rattle.lines.proofs.Words.{words_some}
+use Rattle.lines.proofs.Numbers.{read_set}
 
-both_none : (first : One) → both first One.Nothing ≡ Two.Nothing
-both_none (One.Number m) = refl
-both_none One.Nothing = refl
+both_none : (first : Option ℕ) → both first None ≡ None
+both_none (Some m) = refl
+both_none None = refl
 
-all_none : (first : One) → all first Two.Nothing ≡ Three.Nothing
-all_none (One.Number m) = refl
-all_none One.Nothing = refl
+all_none : (first : Option ℕ) → all first None ≡ None
+all_none (Some m) = refl
+all_none None = refl
 
 -- the first part, and then the others
-two_on : (a b : ℕ) (v : List ℕ) (parts : List (List ℕ)) → two a b (v ∷ parts) ≡ both (read a v) (one b parts)
-two_on a b v [] = sym (both_none (read a v))
-two_on a b v (w ∷ []) = refl
-two_on a b v (w ∷ x ∷ more) = sym (both_none (read a v))
+module _ (bytes v rest : List ℕ) (split : words bytes ≡ v ∷ words rest) where
+  pub one_long : (a : ℕ) → one a (words bytes) ≡ None
+  one_long a = let more = words_some rest in rw (split, more.2)
 
-three_on : (a b c : ℕ) (v : List ℕ) (parts : List (List ℕ)) → three a b c (v ∷ parts) ≡ all (read a v) (two b c parts)
-three_on a b c v [] = sym (all_none (read a v))
-three_on a b c v (w ∷ []) = sym (all_none (read a v))
-three_on a b c v (w ∷ x ∷ []) = refl
-three_on a b c v (w ∷ x ∷ y ∷ more) = sym (all_none (read a v))
+  pub two_split : (a b : ℕ) → two a b (words bytes) ≡ both (read a v) (one b (words rest))
+  two_split a b = rw split (two_on (words rest))
+    where
+      two_on : (parts : List (List ℕ)) → two a b (v ∷ parts) ≡ both (read a v) (one b parts)
+      two_on [] = sym (both_none (read a v))
+      two_on (w ∷ []) = refl
+      two_on (w ∷ x ∷ more) = sym (both_none (read a v))
 
-module _ (rest : List ℕ) where
-  -- the bytes after the first space, as a part of a slice has them
-  abbrev pub after : ℕ → List ℕ
-  after next = take (length rest - next) (drop next rest)
+  pub three_split : (a b c : ℕ) → three a b c (words bytes) ≡ all (read a v) (two b c (words rest))
+  three_split a b c = rw split (three_on (words rest))
+    where
+      three_on : (parts : List (List ℕ)) → three a b c (v ∷ parts) ≡ all (read a v) (two b c parts)
+      three_on [] = sym (all_none (read a v))
+      three_on (w ∷ []) = sym (all_none (read a v))
+      three_on (w ∷ x ∷ []) = refl
+      three_on (w ∷ x ∷ y ∷ more) = sym (all_none (read a v))
 
-  pub after_is : (next : ℕ) → after next ≡ drop next rest
-  after_is next = take_all (length rest - next) (drop next rest) (rw length-drop (le_refl (length rest - next)))
+-- a set is read as a number that is at most 65535
+pub one_set : (parts : List (List ℕ)) → one largest_set parts ≡ option_and_then (within largest_set) (one largest parts)
+one_set [] = refl
+one_set (v ∷ []) = read_set v
+one_set (v ∷ w ∷ more) = refl
 
-  -- no space: one part alone
-  pub one_whole : (a : ℕ) → length rest ≤ front rest → one a (words rest) ≡ read a rest
-  one_whole a l = rw (words_whole rest l)
+pub two_set : (parts : List (List ℕ))
+    → two largest largest_set parts ≡ option_and_then (λ p. both (Some p.0) (within largest_set p.1)) (two largest largest parts)
+two_set [] = refl
+two_set (v ∷ []) = refl
+two_set (v ∷ w ∷ []) = rw (read_set w) (go (read largest v) (read largest w))
+  where
+    go : (m n : Option ℕ)
+        → both m (option_and_then (within largest_set) n) ≡ option_and_then (λ p. both (Some p.0) (within largest_set p.1)) (both m n)
+    go (Some m) (Some n) = refl
+    go (Some m) None = refl
+    go None n = refl
+two_set (v ∷ w ∷ x ∷ more) = refl
 
-  pub two_short : (a b : ℕ) → length rest ≤ front rest → two a b (words rest) ≡ Two.Nothing
-  two_short a b l = rw (words_whole rest l)
-
-  pub three_short : (a b c : ℕ) → length rest ≤ front rest → three a b c (words rest) ≡ Three.Nothing
-  three_short a b c l = rw (words_whole rest l)
-
-  -- a space: a part and further parts
-  pub one_long : (a : ℕ) → front rest < length rest → one a (words rest) ≡ One.Nothing
-  one_long a l = let more = words_some (drop (suc (front rest)) rest) in rw (words_split rest l, more.2)
-
-  pub two_split : (a b end : ℕ) → end ≡ front rest → end < length rest
-      → two a b (words rest) ≡ both (read a (take end rest)) (one b (words (after (end + 1))))
-  two_split a b end e l =
-      rw (words_split rest (rw e at l), ← e, after_is (end + 1), add-one) (two_on a b (take end rest) (words (drop (suc end) rest)))
-
-  pub three_split : (a b c end : ℕ) → end ≡ front rest → end < length rest
-      → three a b c (words rest) ≡ all (read a (take end rest)) (two b c (words (after (end + 1))))
-  three_split a b c end e l =
-      rw (words_split rest (rw e at l), ← e, after_is (end + 1), add-one) (three_on a b c (take end rest) (words (drop (suc end) rest)))
-
--- a number that was read is at most its limit
-pub one_le : (a : ℕ) (parts : List (List ℕ)) (k : ℕ) → one a parts ≡ One.Number k → k ≤ a
-one_le a [] k e = let z : ◌≡◌ {A = ℕ} 0 1 = cc in omega arith
-one_le a (v ∷ []) k e = read_le a v k e
-one_le a (v ∷ w ∷ more) k e = let z : ◌≡◌ {A = ℕ} 0 1 = cc in omega arith
-
-both_second : (first second : One) (m n : ℕ) → both first second ≡ Two.Numbers m n → second ≡ One.Number n
-both_second (One.Number l) (One.Number k) m n e = cc
-both_second (One.Number l) One.Nothing m n e = cc
-both_second One.Nothing second m n e = cc
-
-all_others : (first : One) (others : Two) (l m n : ℕ) → all first others ≡ Three.Numbers l m n → others ≡ Two.Numbers m n
-all_others (One.Number k) (Two.Numbers i j) l m n e = cc
-all_others (One.Number k) Two.Nothing l m n e = cc
-all_others One.Nothing others l m n e = cc
-
-both_first : (first second : One) (m n : ℕ) → both first second ≡ Two.Numbers m n → first ≡ One.Number m
-both_first (One.Number l) (One.Number k) m n e = cc
-both_first (One.Number l) One.Nothing m n e = cc
-both_first One.Nothing second m n e = cc
-
-pub two_le : (a b : ℕ) (parts : List (List ℕ)) (m n : ℕ) → two a b parts ≡ Two.Numbers m n → (m ≤ a) × (n ≤ b)
-two_le a b [] m n e = let z : ◌≡◌ {A = ℕ} 0 1 = cc in absurd (omega arith)
-two_le a b (v ∷ parts) m n e =
-    let f = sym (two_on a b v parts) ∙ e in
-    (read_le a v m (both_first (read a v) (one b parts) m n f), one_le b parts n (both_second (read a v) (one b parts) m n f))
-
-pub three_le : (a b c : ℕ) (parts : List (List ℕ)) (l m n : ℕ) → three a b c parts ≡ Three.Numbers l m n → m ≤ b
-three_le a b c [] l m n e = let z : ◌≡◌ {A = ℕ} 0 1 = cc in absurd (omega arith)
-three_le a b c (v ∷ parts) l m n e =
-    (two_le b c parts m n (all_others (read a v) (two b c parts) l m n (sym (three_on a b c v parts) ∙ e))).0
+pub three_set : (parts : List (List ℕ))
+    → three largest largest_set largest parts
+    ≡ option_and_then (λ p. all (Some p.0) (both (within largest_set p.1) (Some p.2))) (three largest largest largest parts)
+three_set [] = refl
+three_set (v ∷ []) = refl
+three_set (v ∷ w ∷ []) = refl
+three_set (v ∷ w ∷ x ∷ []) = rw (read_set w) (go (read largest v) (read largest w) (read largest x))
+  where
+    go : (l m n : Option ℕ)
+        → all l (both (option_and_then (within largest_set) m) n)
+        ≡ option_and_then (λ p. all (Some p.0) (both (within largest_set p.1) (Some p.2))) (all l (both m n))
+    go (Some l) (Some m) (Some n) = refl
+    go (Some l) (Some m) None = rw (both_none (within largest_set m))
+    go (Some l) None n = refl
+    go None m n = refl
+three_set (v ∷ w ∷ x ∷ y ∷ more) = refl

@@ -11,7 +11,7 @@ use Rattle.lines.specs.Print.{line, spaced, spaced_all, log_line, laid, outcome,
 use Rattle.lines.proofs.Laid.{laid_append, put_whole, put_none, put_buffer, put_next, put_length}
 
 -- a line is its letter, the rest and the newline
-pub line_put : (letter : ℕ) (rest buffer out : List ℕ) (end : ℕ) → length rest + 2 ≤ length buffer
+line_put : (letter : ℕ) (rest buffer out : List ℕ) (end : ℕ) → length rest + 2 ≤ length buffer
     → out ≡ laid 1 rest (set buffer 0 letter) → end ≡ 1 + length rest
     → outcome (set out end 10) (end + 1) ≡ put (line letter rest) 0 buffer
 line_put letter rest buffer out end l e f =
@@ -21,21 +21,28 @@ line_put letter rest buffer out end l e f =
     (omega (arith, length-append rest (10 ∷ [])))
     ∙ sym (put_whole (line letter rest) 0 buffer (omega (arith, length-append rest (10 ∷ []))))
 
-pub line_none : (letter : ℕ) (rest buffer : List ℕ) → length buffer < length rest + 2 → put (line letter rest) 0 buffer ≡ outcome buffer 0
+line_none : (letter : ℕ) (rest buffer : List ℕ) → length buffer < length rest + 2 → put (line letter rest) 0 buffer ≡ outcome buffer 0
 line_none letter rest buffer l = put_none (line letter rest) 0 buffer (omega (arith, length-append rest (10 ∷ [])))
 
 -- a letter and then a number are put
-module _ (letter n : ℕ) (buffer out : List ℕ) (next : ℕ) (room : length (digits n) + 3 ≤ length buffer)
-    (q : outcome out next ≡ put (spaced n) 1 (set buffer 0 letter)) where
+module _ (letter n : ℕ) (buffer out : List ℕ) (next : ℕ)
+    (q : outcome out next ≡ put (spaced n) 1 (set buffer 0 letter)) (room : length (digits n) + 3 ≤ length buffer) where
   head_fits : 1 + length (spaced n) ≤ length (set buffer 0 letter)
   head_fits = simp length-set (omega arith)
 
-  pub head_put : (out ≡ laid 1 (spaced n) (set buffer 0 letter)) × (next ≡ 1 + length (spaced n)) × (length out ≡ length buffer)
+  head_put : (out ≡ laid 1 (spaced n) (set buffer 0 letter)) × (next ≡ 1 + length (spaced n)) × (length out ≡ length buffer)
   head_put = (
     put_buffer (spaced n) 1 (set buffer 0 letter) out next head_fits q,
     put_next (spaced n) 1 (set buffer 0 letter) out next head_fits q,
     put_length (spaced n) 1 (set buffer 0 letter) out next head_fits q ∙ length-set buffer 0 letter,
   )
+
+  pub numbered_put : outcome (set out next 10) (next + 1) ≡ put (line letter (spaced n)) 0 buffer
+  numbered_put = line_put letter (spaced n) buffer out next (omega arith) head_put.0 head_put.1
+
+pub numbered_none : (letter n : ℕ) (buffer : List ℕ) → length buffer < length (digits n) + 3
+    → put (line letter (spaced n)) 0 buffer ≡ outcome buffer 0
+numbered_none letter n buffer l = line_none letter (spaced n) buffer (omega arith)
 
 -- numbers from one on
 module _ (numbers : List ℕ) (i : ℕ) where
@@ -84,11 +91,12 @@ numbers_put numbers i at buffer out place l room e f =
     ap₂ outcome (rw (spaced_end numbers i l) at f) (omega (arith, ap length (spaced_end numbers i l)))
     ∙ sym (put_whole (spaced_all numbers) at buffer room)
 
--- the log's line, once its length and its entries are put
-module _ (log buffer middle out : List ℕ) (next end : ℕ) (room : length (digits (length log)) + 3 + length (spaced_all log) ≤ length buffer)
-    (p : outcome middle next ≡ put (spaced (length log)) 1 (set buffer 0 76)) (q : outcome out end ≡ put (spaced_all log) next middle) where
-  head : (middle ≡ laid 1 (spaced (length log)) (set buffer 0 76)) × (next ≡ 1 + length (spaced (length log))) × (length middle ≡ length buffer)
-  head = head_put 76 (length log) buffer middle next (omega arith) p
+-- the log's line, once its length and its entries are put, whatever the letter
+module _ (log buffer middle out : List ℕ) (letter next end : ℕ)
+    (q : outcome out end ≡ put (spaced_all log) next middle) (p : outcome middle next ≡ put (spaced (length log)) 1 (set buffer 0 letter))
+    (room : length (digits (length log)) + 3 + length (spaced_all log) ≤ length buffer) where
+  head : (middle ≡ laid 1 (spaced (length log)) (set buffer 0 letter)) × (next ≡ 1 + length (spaced (length log))) × (length middle ≡ length buffer)
+  head = head_put letter (length log) buffer middle next p (omega arith)
 
   log_fits : next + length (spaced_all log) ≤ length middle
   log_fits = omega (arith, head.1, head.2)
@@ -102,21 +110,18 @@ module _ (log buffer middle out : List ℕ) (next end : ℕ) (room : length (dig
         length-append (spaced (length log)) (spaced_all log),
       )
 
-  log_buffer : out ≡ laid 1 (spaced_all (length log ∷ log)) (set buffer 0 76)
+  log_buffer : out ≡ laid 1 (spaced_all (length log ∷ log)) (set buffer 0 letter)
   log_buffer =
       put_buffer (spaced_all log) next middle out end log_fits q
       ∙ ap₂ (λ (n : ℕ) (l : List ℕ). laid n (spaced_all log) l) head.1 head.0
-      ∙ sym (laid_append 1 (spaced (length log)) (spaced_all log) (set buffer 0 76))
+      ∙ sym (laid_append 1 (spaced (length log)) (spaced_all log) (set buffer 0 letter))
 
-  pub log_put : (end < length buffer) × (length out ≡ length buffer) × (outcome (set out end 10) (end + 1) ≡ put (log_line log) 0 buffer)
-  log_put = (
-    omega (arith, log_end, length-append (spaced (length log)) (spaced_all log)),
-    put_length (spaced_all log) next middle out end log_fits q ∙ head.2,
-    line_put 76 (spaced_all (length log ∷ log)) buffer out end
-        (omega (arith, length-append (spaced (length log)) (spaced_all log)))
-        log_buffer
-        log_end,
-  )
+  pub log_put : outcome (set out end 10) (end + 1) ≡ put (line letter (spaced_all (length log ∷ log))) 0 buffer
+  log_put =
+      line_put letter (spaced_all (length log ∷ log)) buffer out end
+      (omega (arith, length-append (spaced (length log)) (spaced_all log)))
+      log_buffer
+      log_end
 
 pub log_none : (log buffer : List ℕ) → length buffer < length (digits (length log)) + 3 + length (spaced_all log)
     → put (log_line log) 0 buffer ≡ outcome buffer 0

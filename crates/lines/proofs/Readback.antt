@@ -10,7 +10,7 @@ use borrow.Author.Tests.{ltb-true, ltb-false, lt-ltb, le-leb, ne_eqb}
 use lib.Dec.{ltb}
 use lib.ListN.{length, get_or, get_or-append}
 use Rattle.rules.proofs.Bools.{tested, and_true, and_false_right}
-use Rattle.lines.specs.declared.read.One.TheVariants.{Number}
+use Rattle.std.proofs.Common.{Some}
 use Rattle.lines.specs.Numbers.{is_digit, digital, value_on, value, zero_led, is_numeral, read, digits}
 use Rattle.lines.proofs.Digits.{digits_one, digits_more, digits_longer}
 
@@ -88,7 +88,7 @@ not_led n =
     (λ t. and_false_right (ltb 1 (length (digits n))) (ne_eqb (get_or (digits n) 0 0) 48 (first_digit n (omega (arith, ltb-false n 10 t)))))
     (tested (ltb n 10))
 
-pub read_digits : (most n : ℕ) → n ≤ most → read most (digits n) ≡ Number n
+pub read_digits : (most n : ℕ) → n ≤ most → read most (digits n) ≡ Some n
 unfolding read is_numeral
 read_digits most n l =
     rw (lt-ltb 0 (length (digits n)) (some_digit n), not_led n, digital_digits n, value_digits n, le-leb n most l)

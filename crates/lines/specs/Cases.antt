@@ -1,12 +1,12 @@
 -- Worked lines of input and output, of the definitions themselves: one table under one statement.
-use Rattle.std.specs.Prelude.{ℕ, ◌≡◌, refl, List, [], ◌∷◌, map}
+use Rattle.std.specs.Prelude.{ℕ, ◌≡◌, refl, List, [], ◌∷◌, map, Option, Some, None}
 use Prim.Native.Char.{code}
 use Prim.Native.String.{String, [] as none, ◌∷◌ as ◌then◌}
 use Rattle.rules.specs.declared.Proposal.TheVariants.{Pull, Invoke, Reconfigure, Push}
 use Rattle.rules.specs.declared.Refusal.TheVariants.{EmptySet, OffBranch}
 use Rattle.rules.specs.declared.Answer.TheVariants.{Accepted, Short, Refused}
 use Rattle.lines.specs.declared.Line.{Line}
-use Rattle.lines.specs.declared.Line.TheVariants.{Open, Propose, Bad}
+use Rattle.lines.specs.declared.Line.TheVariants.{Open, Propose}
 use Rattle.lines.specs.Numbers.{value, zero_led, is_numeral, read, digits}
 use Rattle.lines.specs.Parse.{lettered, parsed}
 use Rattle.lines.specs.Print.{answer_line, bad_line, log_line, put}
@@ -19,46 +19,46 @@ text (c then rest) = code c ∷ text rest
 -- a line of input, and what it asks
 pub record Asked : Type 0 where
   pub line : String
-  pub asks : Line
+  pub asks : Option Line
 
-abbrev ◌asks◌ : String → Line → Asked
+abbrev ◌asks◌ : String → Option Line → Asked
 line asks what = record { line = line; asks = what }
 
 infix 68 ◌asks◌
 pub asked : List Asked
 asked =
-    "O" asks Open 7
-    ∷ "O 7" asks Open 7
-    ∷ "O 0" asks Open 0
-    ∷ "O 65535" asks Open 65535
-    ∷ "O 65536" asks Bad
-    ∷ "P 0 3 1" asks Propose (Pull 0 3 1)
-    ∷ "P 4294967295 65535 4294967295" asks Propose (Pull 4294967295 65535 4294967295)
-    ∷ "P 4294967296 3 1" asks Bad
-    ∷ "P 0 65536 1" asks Bad
-    ∷ "P 0 3 4294967296" asks Bad
-    ∷ "I 0 500" asks Propose (Invoke 0 500)
-    ∷ "I 16 0" asks Propose (Invoke 16 0)
-    ∷ "R 0 15" asks Propose (Reconfigure 0 15)
-    ∷ "R 0 65536" asks Bad
-    ∷ "C 0 11 5" asks Propose (Push 0 11 5)
-    ∷ "C 0 11 70000" asks Propose (Push 0 11 70000)
-    ∷ "" asks Bad
-    ∷ "P" asks Bad
-    ∷ "P 0 3" asks Bad
-    ∷ "P 0 3 1 1" asks Bad
-    ∷ "P 0  3 1" asks Bad
-    ∷ "P 0 3 1 " asks Bad
-    ∷ " P 0 3 1" asks Bad
-    ∷ "P0 3 1" asks Bad
-    ∷ "P 00 3 1" asks Bad
-    ∷ "P 0 03 1" asks Bad
-    ∷ "P 0 3 +1" asks Bad
-    ∷ "P 0 3 -1" asks Bad
-    ∷ "P 0 3 1x" asks Bad
-    ∷ "Q 0 3 1" asks Bad
-    ∷ "O " asks Bad
-    ∷ "I 0 1000000000000000000000000000000000000000000000000000000000001" asks Bad
+    "O" asks Some (Open 7)
+    ∷ "O 7" asks Some (Open 7)
+    ∷ "O 0" asks Some (Open 0)
+    ∷ "O 65535" asks Some (Open 65535)
+    ∷ "O 65536" asks None
+    ∷ "P 0 3 1" asks Some (Propose (Pull 0 3 1))
+    ∷ "P 4294967295 65535 4294967295" asks Some (Propose (Pull 4294967295 65535 4294967295))
+    ∷ "P 4294967296 3 1" asks None
+    ∷ "P 0 65536 1" asks None
+    ∷ "P 0 3 4294967296" asks None
+    ∷ "I 0 500" asks Some (Propose (Invoke 0 500))
+    ∷ "I 16 0" asks Some (Propose (Invoke 16 0))
+    ∷ "R 0 15" asks Some (Propose (Reconfigure 0 15))
+    ∷ "R 0 65536" asks None
+    ∷ "C 0 11 5" asks Some (Propose (Push 0 11 5))
+    ∷ "C 0 11 70000" asks Some (Propose (Push 0 11 70000))
+    ∷ "" asks None
+    ∷ "P" asks None
+    ∷ "P 0 3" asks None
+    ∷ "P 0 3 1 1" asks None
+    ∷ "P 0  3 1" asks None
+    ∷ "P 0 3 1 " asks None
+    ∷ " P 0 3 1" asks None
+    ∷ "P0 3 1" asks None
+    ∷ "P 00 3 1" asks None
+    ∷ "P 0 03 1" asks None
+    ∷ "P 0 3 +1" asks None
+    ∷ "P 0 3 -1" asks None
+    ∷ "P 0 3 1x" asks None
+    ∷ "Q 0 3 1" asks None
+    ∷ "O " asks None
+    ∷ "I 0 1000000000000000000000000000000000000000000000000000000000001" asks None
     ∷ []
 
 -- bytes of output, and the text that they are

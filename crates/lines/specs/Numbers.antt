@@ -1,8 +1,6 @@
 -- Numbers in decimal: what a numeral stands for, and how a number is written.
-use Rattle.std.specs.Prelude.{ℕ, zero, suc, ◌+◌, ◌-◌, ◌*◌, ◌/◌, ◌%◌, Bool, true, cond, not, ◌&&◌, List, [], ◌∷◌, ◌++◌, ltb, leb, eqb, length, get_or}
+use Rattle.std.specs.Prelude.{ℕ, zero, suc, ◌+◌, ◌-◌, ◌*◌, ◌/◌, ◌%◌, Bool, true, cond, not, ◌&&◌, List, [], ◌∷◌, ◌++◌, ltb, leb, eqb, length, get_or, Option, Some, None}
 use Prim.Native.Char.{code}
-use Rattle.lines.specs.declared.read.One.{One}
-use Rattle.lines.specs.declared.read.One.TheVariants.{Number, Nothing}
 
 -- a number is at most 4,294,967,295, and a set at most 65535
 abbrev pub largest : ℕ
@@ -38,16 +36,16 @@ unfoldable pub is_numeral : List ℕ → Bool
 is_numeral word = ltb 0 (length word) && (not (zero_led word) && digital word)
 
 -- a number where it is at most the limit
-abbrev pub within : ℕ → ℕ → One
-within most n = cond (leb n most) (Number n) Nothing
+abbrev pub within : ℕ → ℕ → Option ℕ
+within most n = cond (leb n most) (Some n) None
 
 -- the number of some digits, leading zeros or none
-unfoldable pub digits_within : ℕ → List ℕ → One
-digits_within most word = cond (digital word) (within most (value word)) Nothing
+unfoldable pub digits_within : ℕ → List ℕ → Option ℕ
+digits_within most word = cond (digital word) (within most (value word)) None
 
 -- the number that a word is
-unfoldable pub read : ℕ → List ℕ → One
-read most word = cond (is_numeral word) (within most (value word)) Nothing
+unfoldable pub read : ℕ → List ℕ → Option ℕ
+read most word = cond (is_numeral word) (within most (value word)) None
 
 -- the digits of a number up to k, none for 0: its last digit stands after those of its tenth part
 abbrev pub digits_of : ℕ → ℕ → List ℕ

@@ -12,150 +12,109 @@ ghost use Rattle.lines.specs.Parts.{one, two, three};
 ghost use Rattle.lines.specs.Parse.{open_with, pull_of, invoke_of, reconfigure_of, push_of, lettered, parsed};
 ghost use Rattle.lines.specs.Print.{answer_line, bad_line, log_line, outcome, put};
 
-use read::{One, Three, Two};
 use rules::{Answer, Proposal, Refusal};
 
-// What a line of input asks: to open with a set, or a proposal. Any other line is bad.
+// What a line of input asks: to open with a set, or a proposal.
 #[derive(Clone, Copy)]
 pub enum Line {
     Open(u16),
     Propose(Proposal),
-    Bad,
 }
 
 // `O set`, after the letter's space.
-fn open_with(rest: &[u8]) -> Line
+#[tactic(auto, using(crate::proofs::Parts::one_set))]
+fn open_with(rest: &[u8]) -> Option<Line>
     ensures { result ≡ open_with (one largest_set (words rest.now)) }
 {
-    match read::only(rest, 65535) {
-        One::Number(set) => Line::Open(set as u16),
-        One::Nothing => Line::Bad,
-    }
+    let set = read::only(rest)?;
+    Some(Line::Open(u16::try_from(set).ok()?))
 }
 
 // `P caller set time`.
-fn pull(rest: &[u8]) -> Line
+#[tactic(auto, using(crate::proofs::Parts::three_set))]
+fn pull(rest: &[u8]) -> Option<Line>
     ensures { result ≡ pull_of (three largest largest_set largest (words rest.now)) }
 {
-    match read::triple(rest, 4294967295, 65535, 4294967295) {
-        Three::Numbers(caller, voters, time) => Line::Propose(Proposal::Pull {
-            caller,
-            voters: voters as u16,
-            time,
-        }),
-        Three::Nothing => Line::Bad,
-    }
+    let (caller, set, time) = read::triple(rest)?;
+    let voters = u16::try_from(set).ok()?;
+    Some(Line::Propose(Proposal::Pull {
+        caller,
+        voters,
+        time,
+    }))
 }
 
 // `I caller command`.
-fn invoke(rest: &[u8]) -> Line
+fn invoke(rest: &[u8]) -> Option<Line>
     ensures { result ≡ invoke_of (two largest largest (words rest.now)) }
 {
-    match read::pair(rest, 4294967295, 4294967295) {
-        Two::Numbers(caller, number) => Line::Propose(Proposal::Invoke { caller, number }),
-        Two::Nothing => Line::Bad,
-    }
+    let (caller, number) = read::pair(rest)?;
+    Some(Line::Propose(Proposal::Invoke { caller, number }))
 }
 
 // `R caller set`.
-fn reconfigure(rest: &[u8]) -> Line
+#[tactic(auto, using(crate::proofs::Parts::two_set))]
+fn reconfigure(rest: &[u8]) -> Option<Line>
     ensures { result ≡ reconfigure_of (two largest largest_set (words rest.now)) }
 {
-    match read::pair(rest, 4294967295, 65535) {
-        Two::Numbers(caller, members) => Line::Propose(Proposal::Reconfigure {
-            caller,
-            members: members as u16,
-        }),
-        Two::Nothing => Line::Bad,
-    }
+    let (caller, set) = read::pair(rest)?;
+    let members = u16::try_from(set).ok()?;
+    Some(Line::Propose(Proposal::Reconfigure { caller, members }))
 }
 
 // `C caller set target`.
-fn push(rest: &[u8]) -> Line
+#[tactic(auto, using(crate::proofs::Parts::three_set))]
+fn push(rest: &[u8]) -> Option<Line>
     ensures { result ≡ push_of (three largest largest_set largest (words rest.now)) }
 {
-    match read::triple(rest, 4294967295, 65535, 4294967295) {
-        Three::Numbers(caller, voters, target) => Line::Propose(Proposal::Push {
-            caller,
-            voters: voters as u16,
-            target,
-        }),
-        Three::Nothing => Line::Bad,
-    }
+    let (caller, set, target) = read::triple(rest)?;
+    let voters = u16::try_from(set).ok()?;
+    Some(Line::Propose(Proposal::Push {
+        caller,
+        voters,
+        target,
+    }))
 }
 
 // A letter with parts after it.
 #[tactic(auto, unfolding(crate::specs::Parse::lettered))]
-fn lettered(letter: u8, rest: &[u8]) -> Line
+fn lettered(letter: u8, rest: &[u8]) -> Option<Line>
     ensures { result ≡ lettered letter (words rest.now) }
 {
-    if letter == b'O' {
-        return open_with(rest);
+    match letter {
+        b'O' => open_with(rest),
+        b'P' => pull(rest),
+        b'I' => invoke(rest),
+        b'R' => reconfigure(rest),
+        b'C' => push(rest),
+        _ => None,
     }
-    if letter == b'P' {
-        return pull(rest);
-    }
-    if letter == b'I' {
-        return invoke(rest);
-    }
-    if letter == b'R' {
-        return reconfigure(rest);
-    }
-    if letter == b'C' {
-        return push(rest);
-    }
-    Line::Bad
 }
 
-// What does a line ask? These are its bytes before the newline.
-pub fn parse(line: &[u8]) -> Line
+// What does a line ask, if it is of the form? These are its bytes before the newline.
+#[tactic(auto, using(crate::proofs::Letters::by_letters))]
+pub fn parse(line: &[u8]) -> Option<Line>
     ensures { result ≡ parsed line.now }
 {
     if line.len() > 63 {
-        return Line::Bad;
+        return None;
     }
-    if line.len() == 0 {
-        return Line::Bad;
+    match line {
+        [b'O'] => Some(Line::Open(7)),
+        [letter, b' ', rest @ ..] => lettered(*letter, rest),
+        _ => None,
     }
-    let letter = line[0];
-    if line.len() == 1 {
-        if letter == b'O' {
-            return Line::Open(7);
-        }
-        return Line::Bad;
-    }
-    if line[1] != b' ' {
-        return Line::Bad;
-    }
-    lettered(letter, &line[2..])
 }
 
 // Document 01's number of a refusal.
 pub fn number(refusal: Refusal) -> u32
     ensures { result ≡ numbered refusal }
 {
-    match refusal {
-        Refusal::EmptySet => 1,
-        Refusal::NoSuchCaller => 2,
-        Refusal::CallerAbsent => 3,
-        Refusal::Stranger => 4,
-        Refusal::ClockPast => 5,
-        Refusal::NotLeading => 6,
-        Refusal::BadTarget => 7,
-        Refusal::Superseded => 8,
-        Refusal::NotNext => 9,
-        Refusal::OpenChange => 10,
-        Refusal::NoCommitYet => 11,
-        Refusal::TableFull => 12,
-        Refusal::VersionsOut => 13,
-        Refusal::NoSuchNumber => 14,
-        Refusal::BufferShort => 15,
-        Refusal::NoTable => 16,
-        Refusal::OffBranch => 17,
-    }
+    refusal as u32
 }
 
 // The line of an answer, at the front of the buffer. Answers how many bytes it has, or 0 where it doesn't fit.
+// The buffer is lent, and `put` says each byte of it: the replay program's memory is fixed.
 pub fn print(answer: Answer, out: &mut [u8]) -> usize
     ensures { outcome out.new result ≡ put (answer_line answer) 0 out.old }
 {
@@ -174,6 +133,7 @@ pub fn print_bad(out: &mut [u8]) -> usize
 }
 
 // The last line, with the log's length and entries, likewise.
+#[tactic(auto, using(std::proofs::lemmas::Grind::common_steps, crate::proofs::Digits::digits_count, crate::proofs::Laid::put_whole, crate::proofs::Printed::log_none, crate::proofs::Printed::log_put))]
 pub fn print_log(log: &[u32], out: &mut [u8]) -> usize
     ensures { outcome out.new result ≡ put (log_line log.now) 0 out.old }
 {

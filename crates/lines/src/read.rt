@@ -1,139 +1,80 @@
 // Words, numerals and the parts of a line.
-ghost use Rattle.std.specs.Prelude.{◌≡◌};
-ghost use Rattle.lines.specs.Words.{words, front};
-ghost use Rattle.lines.specs.Numbers.{digits_within, read};
-ghost use Rattle.lines.specs.Parts.{both, all, one, two, three};
+ghost use Rattle.std.specs.Prelude.{◌≡◌, [], ◌∷◌, IfSome, IsNone};
+ghost use Rattle.std.specs.List.{position};
+ghost use Rattle.lines.specs.Words.{space, words};
+ghost use Rattle.lines.specs.Numbers.{largest, digits_within, read};
+ghost use Rattle.lines.specs.Parts.{one, two, three};
 
-// One, two or three numbers read from the parts of a line, or nothing where the parts are not that.
-#[derive(Clone, Copy)]
-pub enum One {
-    Number(u32),
-    Nothing,
-}
-
-#[derive(Clone, Copy)]
-pub enum Two {
-    Numbers(u32, u32),
-    Nothing,
-}
-
-#[derive(Clone, Copy)]
-pub enum Three {
-    Numbers(u32, u32, u32),
-    Nothing,
-}
-
-// How many bytes stand before the first space?
-fn front(bytes: &[u8]) -> usize
-    ensures { result ≡ front bytes.now }
+// How many bytes stand before the first space, where there is one?
+fn front(bytes: &[u8]) -> Option<usize>
+    ensures { result ≡ position space bytes.now }
 {
-    let mut i = 0;
-    while i < bytes.len() {
-        if bytes[i] == b' ' {
-            return i;
+    bytes.iter().position(|&byte| byte == b' ')
+}
+
+// The part before the first space and what stands after it, where there is a space.
+#[tactic(auto, using(crate::proofs::Words::words_whole, crate::proofs::Words::words_split))]
+fn split_once(rest: &[u8]) -> Option<(&[u8], &[u8])>
+    ensures apart { IfSome result (λ parts. words rest.now ≡ parts.0.now ∷ words parts.1.now) }
+    ensures whole { IsNone result → words rest.now ≡ rest.now ∷ [] }
+{
+    let end = front(rest)?;
+    Some((&rest[..end], &rest[end + 1..]))
+}
+
+// The number that digits stand for, where there are only digits and it is at most the largest.
+#[tactic(auto, using(crate::proofs::Numbers::digits_other, crate::proofs::Numbers::digits_over, crate::proofs::Numbers::digits_end))]
+fn digits(word: &[u8]) -> Option<u32>
+    ensures { result ≡ digits_within largest word.now }
+{
+    let mut value: u32 = 0;
+    for &byte in word {
+        if !byte.is_ascii_digit() {
+            return None;
         }
-        i += 1;
+        value = value.checked_mul(10)?.checked_add((byte - b'0') as u32)?;
     }
-    i
+    Some(value)
 }
 
-// The number that digits stand for, where there are only digits and it is at most the limit.
-fn digits(word: &[u8], most: u32) -> One
-    ensures { result ≡ digits_within most word.now }
+// The number that a word is, where it is a numeral.
+#[tactic(auto, using(crate::proofs::Numbers::by_numeral))]
+fn numeral(word: &[u8]) -> Option<u32>
+    ensures { result ≡ read largest word.now }
 {
-    let limit = most as u64;
-    let mut value: u64 = 0;
-    let mut i = 0;
-    while i < word.len() {
-        let byte = word[i];
-        if byte < b'0' {
-            return One::Nothing;
-        }
-        if byte > b'9' {
-            return One::Nothing;
-        }
-        value = value * 10 + (byte - b'0') as u64;
-        if value > limit {
-            return One::Nothing;
-        }
-        i += 1;
-    }
-    One::Number(value as u32)
-}
-
-// The number that a word is, where it is a numeral and at most the limit.
-#[tactic(auto, using(crate::proofs::Numbers::read_none, crate::proofs::Numbers::read_one, crate::proofs::Numbers::read_led, crate::proofs::Numbers::read_many))]
-fn numeral(word: &[u8], most: u32) -> One
-    ensures { result ≡ read most word.now }
-{
-    if word.len() == 0 {
-        return One::Nothing;
-    }
-    if word.len() == 1 {
-        return digits(word, most);
-    }
-    if word[0] == b'0' {
-        return One::Nothing;
-    }
-    digits(word, most)
-}
-
-// The only part, a number at most the limit.
-pub fn only(rest: &[u8], most: u32) -> One
-    ensures { result ≡ one most (words rest.now) }
-{
-    if front(rest) < rest.len() {
-        return One::Nothing;
-    }
-    numeral(rest, most)
-}
-
-// Both numbers, or nothing where one is none.
-fn both(first: One, second: One) -> Two
-    ensures { result ≡ both first second }
-{
-    match first {
-        One::Number(m) => match second {
-            One::Number(n) => Two::Numbers(m, n),
-            One::Nothing => Two::Nothing,
-        },
-        One::Nothing => Two::Nothing,
+    match word {
+        [] | [b'0', _, ..] => None,
+        _ => digits(word),
     }
 }
 
-// All three numbers, or nothing where one is none.
-fn all(first: One, others: Two) -> Three
-    ensures { result ≡ all first others }
+// The only part, a number.
+#[tactic(auto, using(crate::proofs::Parts::one_long))]
+pub fn only(rest: &[u8]) -> Option<u32>
+    ensures { result ≡ one largest (words rest.now) }
 {
-    match first {
-        One::Number(l) => match others {
-            Two::Numbers(m, n) => Three::Numbers(l, m, n),
-            Two::Nothing => Three::Nothing,
-        },
-        One::Nothing => Three::Nothing,
+    match split_once(rest) {
+        Some(_) => None,
+        None => numeral(rest),
     }
 }
 
-// Two parts, each a number at most its limit.
-pub fn pair(rest: &[u8], a: u32, b: u32) -> Two
-    ensures { result ≡ two a b (words rest.now) }
+// Two parts, each a number.
+#[tactic(auto, using(crate::proofs::Parts::two_split))]
+pub fn pair(rest: &[u8]) -> Option<(u32, u32)>
+    ensures { result ≡ two largest largest (words rest.now) }
 {
-    let end = front(rest);
-    if end >= rest.len() {
-        return Two::Nothing;
-    }
-    let next = end + 1;
-    both(numeral(&rest[..end], a), only(&rest[next..], b))
+    let (first, others) = split_once(rest)?;
+    Some((numeral(first)?, only(others)?))
 }
 
-// Three parts, each a number at most its limit.
-pub fn triple(rest: &[u8], a: u32, b: u32, d: u32) -> Three
-    ensures { result ≡ three a b d (words rest.now) }
+// Three parts, each a number.
+#[tactic(auto, using(crate::proofs::Parts::three_split))]
+pub fn triple(rest: &[u8]) -> Option<(u32, u32, u32)>
+    ensures { result ≡ three largest largest largest (words rest.now) }
 {
-    let end = front(rest);
-    if end >= rest.len() {
-        return Three::Nothing;
-    }
-    let next = end + 1;
-    all(numeral(&rest[..end], a), pair(&rest[next..], b, d))
+    let (first, others) = split_once(rest)?;
+    let number = numeral(first)?;
+    let (second, third) = pair(others)?;
+    Some((number, second, third))
 }

@@ -4,13 +4,14 @@ ghost use Rattle.lines.specs.Numbers.{digits};
 ghost use Rattle.lines.specs.Print.{line, spaced, spaced_all, outcome, put};
 
 // How many digits has a number?
+#[tactic(auto, using(crate::proofs::Digits::digits_one, crate::proofs::Digits::digits_longer))]
 pub fn width(n: u64) -> usize
     ensures { result ≡ length (digits n) }
 {
     let mut rest = n;
     let mut count: usize = 1;
     while rest >= 10 {
-        rest = rest / 10;
+        rest /= 10;
         count += 1;
     }
     count
@@ -21,19 +22,18 @@ pub fn fits(numbers: &[u32], room: usize) -> bool
     ensures { result ≡ leb (length (spaced_all numbers.now)) room }
 {
     let mut free = room;
-    let mut i = 0;
-    while i < numbers.len() {
-        let count = width(numbers[i] as u64);
+    for &n in numbers {
+        let count = width(n as u64);
         if free <= count {
             return false;
         }
-        free = free - count - 1;
-        i += 1;
+        free -= count + 1;
     }
     true
 }
 
 // A number with the space before it, at a place of the buffer, from its last digit on. Answers the place after it.
+#[tactic(auto, using(crate::proofs::Laid::put_none, crate::proofs::Laid::put_whole, crate::proofs::Digits::digits_longer, crate::proofs::Laid::first_laid))]
 pub fn put_number(n: u64, at: usize, out: &mut [u8]) -> usize
     ensures { outcome out.new result ≡ put (spaced n) at out.old }
 {
@@ -48,7 +48,7 @@ pub fn put_number(n: u64, at: usize, out: &mut [u8]) -> usize
     let mut place = at + count;
     while rest >= 10 {
         out[place] = b'0' + (rest % 10) as u8;
-        rest = rest / 10;
+        rest /= 10;
         place -= 1;
     }
     out[place] = b'0' + rest as u8;
@@ -57,6 +57,7 @@ pub fn put_number(n: u64, at: usize, out: &mut [u8]) -> usize
 }
 
 // Numbers with a space before each, at a place of the buffer. Answers the place after them.
+#[tactic(auto, using(crate::proofs::Laid::put_none, crate::proofs::Printed::numbers_put))]
 pub fn put_numbers(numbers: &[u32], at: usize, out: &mut [u8]) -> usize
     ensures { outcome out.new result ≡ put (spaced_all numbers.now) at out.old }
 {
@@ -67,15 +68,14 @@ pub fn put_numbers(numbers: &[u32], at: usize, out: &mut [u8]) -> usize
         return at;
     }
     let mut place = at;
-    let mut i = 0;
-    while i < numbers.len() {
-        place = put_number(numbers[i] as u64, place, out);
-        i += 1;
+    for &n in numbers {
+        place = put_number(n as u64, place, out);
     }
     place
 }
 
 // The line of a letter and a number, at the front of the buffer.
+#[tactic(auto, using(std::proofs::lemmas::Grind::common_steps, crate::proofs::Digits::digits_count, crate::proofs::Laid::put_whole, crate::proofs::Printed::numbered_none, crate::proofs::Printed::numbered_put))]
 pub fn put_numbered(letter: u8, n: u32, out: &mut [u8]) -> usize
     ensures { outcome out.new result ≡ put (line letter (spaced n)) 0 out.old }
 {
@@ -91,6 +91,7 @@ pub fn put_numbered(letter: u8, n: u32, out: &mut [u8]) -> usize
 }
 
 // The line of a letter alone.
+#[tactic(auto, using(crate::proofs::Laid::put_whole, crate::proofs::Laid::put_none))]
 pub fn put_letter(letter: u8, out: &mut [u8]) -> usize
     ensures { outcome out.new result ≡ put (line letter []) 0 out.old }
 {

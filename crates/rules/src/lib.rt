@@ -44,10 +44,10 @@ pub enum Proposal {
     },
 }
 
-// The refusals, in the order of document 01's numbers 1 to 17.
+// The refusals, with document 01's numbers 1 to 17.
 #[derive(Clone, Copy)]
 pub enum Refusal {
-    EmptySet,
+    EmptySet = 1,
     NoSuchCaller,
     CallerAbsent,
     Stranger,
