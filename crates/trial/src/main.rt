@@ -2,110 +2,101 @@
 #![tactic(auto)]
 
 use referee::{Outcome, Table};
-use rules::{Answer, Kind, Reading, Record, Refusal, Shown};
+use rules::{Answer, Kind, Record, Refusal};
 use std::io;
-use std::io::{Stdout, Write};
-
-fn numbered(mut out: Stdout, letter: &[u8], n: u32) -> io::Result<()> {
-    out.write_all(letter)?;
-    println!(out; "{n}")
-}
-
-fn refused(out: Stdout, refusal: Refusal) -> io::Result<()> {
-    numbered(out, b"X ", lines::number(refusal))
-}
+use std::io::Stdout;
 
 // Prints what was tried and what was answered.
-fn show(mut out: Stdout, tried: &[u8], o: Outcome) -> io::Result<()> {
-    out.write_all(tried)?;
-    let answer = o.answer;
-    match answer {
-        Answer::Accepted(n) => numbered(out, b": A ", n as u32),
-        Answer::Short => out.write_all(b": U\n"),
-        Answer::Refused(refusal) => {
-            out.write_all(b": ")?;
-            refused(out, refusal)
-        }
+fn show(out: Stdout, tried: &str, o: Outcome) -> io::Result<()> {
+    match o.answer {
+        Answer::Accepted(n) => println!(out; "{tried}: A {n}"),
+        Answer::Short => println!(out; "{tried}: U"),
+        Answer::Refused(refusal) => refused(out, tried, refusal),
     }
 }
 
+fn refused(out: Stdout, tried: &str, refusal: Refusal) -> io::Result<()> {
+    let n = lines::number(refusal);
+    println!(out; "{tried}: X {n}")
+}
+
 // A reading: its number, or its refusal.
-fn tell(mut out: Stdout, tried: &[u8], reading: Reading) -> io::Result<()> {
-    out.write_all(tried)?;
-    out.write_all(b": ")?;
+fn tell(out: Stdout, tried: &str, reading: Result<u32, Refusal>) -> io::Result<()> {
     match reading {
-        Reading::Number(n) => numbered(out, b"", n),
-        Reading::Refused(refusal) => refused(out, refusal),
+        Ok(n) => println!(out; "{tried}: {n}"),
+        Err(refusal) => refused(out, tried, refusal),
     }
 }
 
 // One record: its time, or the refusal.
-fn tell_record(mut out: Stdout, tried: &[u8], shown: Shown) -> io::Result<()> {
-    out.write_all(tried)?;
-    out.write_all(b": ")?;
-    match shown {
-        Shown::One(r) => numbered(out, b"time ", r.time),
-        Shown::Refused(refusal) => refused(out, refusal),
+fn tell_record(out: Stdout, tried: &str, reading: Result<Record, Refusal>) -> io::Result<()> {
+    match reading {
+        Ok(r) => {
+            let time = r.time;
+            println!(out; "{tried}: time {time}")
+        }
+        Err(refusal) => refused(out, tried, refusal),
     }
 }
 
 // Opening, and the refusals of a fresh table.
 fn at_first(out: Stdout) -> io::Result<()> {
-    show(out, b"open with no node", Table::open(0))?;
+    show(out, "open with no node", Table::open(0))?;
     let opened = Table::open(7);
-    show(out, b"open with nodes 0 to 2", opened)?;
+    show(out, "open with nodes 0 to 2", opened)?;
     let t = opened.state;
-    show(out, b"pull by caller 16", t.pull(16, 1, 1))?;
-    show(out, b"pull by a caller that doesn't vote", t.pull(0, 6, 1))?;
-    show(out, b"pull for time 0", t.pull(0, 3, 0))?;
-    show(out, b"pull with a stranger", t.pull(0, 9, 1))?;
-    show(out, b"pull with one of three", t.pull(0, 1, 1))?;
-    show(out, b"invoke by no leader", t.invoke(0, 500))?;
-    tell_record(out, b"record 0", t.record(0))?;
-    tell_record(out, b"record 1 of one", t.record(1))
+    show(out, "pull by caller 16", t.pull(16, 1, 1))?;
+    show(out, "pull by a caller that doesn't vote", t.pull(0, 6, 1))?;
+    show(out, "pull for time 0", t.pull(0, 3, 0))?;
+    show(out, "pull with a stranger", t.pull(0, 9, 1))?;
+    show(out, "pull with one of three", t.pull(0, 1, 1))?;
+    show(out, "invoke by no leader", t.invoke(0, 500))?;
+    tell_record(out, "record 0", t.record(0))?;
+    tell_record(out, "record 1 of one", t.record(1))
 }
 
 // A leader before its first commit.
 fn elected(out: Stdout, t: Table) -> io::Result<()> {
     let won = t.pull(0, 3, 1);
-    show(out, b"pull with two of three", won)?;
+    show(out, "pull with two of three", won)?;
     let led = won.state;
-    show(out, b"push of an election", led.push(0, 3, 1))?;
-    show(out, b"change to no node", led.reconfigure(0, 0))?;
+    show(out, "push of an election", led.push(0, 3, 1))?;
+    show(out, "change to no node", led.reconfigure(0, 0))?;
     show(
         out,
-        b"change to a set without the caller",
+        "change to a set without the caller",
         led.reconfigure(0, 6),
     )?;
-    show(out, b"change by two nodes", led.reconfigure(0, 31))?;
-    show(out, b"change before a commit", led.reconfigure(0, 15))
+    show(out, "change by two nodes", led.reconfigure(0, 31))?;
+    show(out, "change before a commit", led.reconfigure(0, 15))
 }
 
 // A leader that committed, and what can be read then.
 fn committed(out: Stdout, t: Table) -> io::Result<()> {
     let pushed = t.push(0, 3, 2);
-    show(out, b"push with two of three", pushed)?;
+    show(out, "push with two of three", pushed)?;
     let after = pushed.state;
-    show(out, b"push of it again", after.push(0, 3, 2))?;
+    show(out, "push of it again", after.push(0, 3, 2))?;
     let changed = after.reconfigure(0, 15);
-    show(out, b"change by one node", changed)?;
+    show(out, "change by one node", changed)?;
     let open = changed.state;
-    show(out, b"a second change", open.reconfigure(0, 31))?;
-    tell(out, b"length of the log", after.log_length())?;
-    tell(out, b"entry 0 of the log", after.log_entry(0))?;
-    tell(out, b"entry 1 of one", after.log_entry(1))?;
-    tell(out, b"clock of node 1", after.clock(1))?;
-    tell(out, b"clock of node 16", after.clock(16))
+    show(out, "a second change", open.reconfigure(0, 31))?;
+    tell(out, "length of the log", after.log_length())?;
+    tell(out, "entry 0 of the log", after.log_entry(0))?;
+    tell(out, "entry 1 of one", after.log_entry(1))?;
+    tell(out, "clock of node 1", after.clock(1))?;
+    tell(out, "clock of node 16", after.clock(16))
 }
 
 // The log copied to a lent buffer: further places keep what they had.
 fn copied(out: Stdout, t: Table) -> io::Result<()> {
     let mut none = [0u32; 0];
-    tell(out, b"log copied to no place", t.copy_log(&mut none))?;
+    tell(out, "log copied to no place", t.copy_log(&mut none))?;
     let mut two = [9u32; 2];
-    tell(out, b"log copied to two places", t.copy_log(&mut two))?;
-    numbered(out, b"the first then holds ", two[0])?;
-    numbered(out, b"the second still holds ", two[1])
+    tell(out, "log copied to two places", t.copy_log(&mut two))?;
+    let [first, second] = two;
+    println!(out; "the first then holds {first}")?;
+    println!(out; "the second still holds {second}")
 }
 
 fn record(parent: u8, caller: u8, time: u32, version: u8, kind: Kind) -> Record {
@@ -125,8 +116,8 @@ fn last_version(out: Stdout, t: Table) -> io::Result<()> {
     hand.records[1] = record(0, 0, 1, 255, Kind::Command { number: 0 });
     hand.count = 2;
     hand.clocks[0] = 1;
-    show(out, b"invoke after version 255", hand.invoke(0, 1))?;
-    show(out, b"the same with its clock behind", damaged_clock(hand))
+    show(out, "invoke after version 255", hand.invoke(0, 1))?;
+    show(out, "the same with its clock behind", damaged_clock(hand))
 }
 
 fn damaged_clock(t: Table) -> Outcome {
@@ -149,35 +140,35 @@ fn other_branch(out: Stdout, t: Table) -> io::Result<()> {
     hand.length = 1;
     show(
         out,
-        b"push off the branch of the latest commit",
+        "push off the branch of the latest commit",
         hand.push(0, 5, 4),
     )?;
     hand.records[5] = record(4, 0, 2, 1, Kind::Commit { voters: 1 });
     hand.count = 6;
-    show(out, b"two branches of commits", hand.invoke(0, 1))
+    show(out, "two branches of commits", hand.invoke(0, 1))
 }
 
 // States that are no tables.
 fn damaged(out: Stdout, t: Table) -> io::Result<()> {
     let mut hand = t;
     hand.count = 0;
-    show(out, b"no record", hand.pull(0, 3, 1))?;
+    show(out, "no record", hand.pull(0, 3, 1))?;
     hand.count = 300;
-    show(out, b"300 records", hand.pull(0, 3, 1))?;
+    show(out, "300 records", hand.pull(0, 3, 1))?;
     hand.count = 1;
     hand.length = 300;
-    show(out, b"300 entries", hand.pull(0, 3, 1))?;
+    show(out, "300 entries", hand.pull(0, 3, 1))?;
     hand.length = 1;
-    show(out, b"an entry too many", hand.pull(0, 3, 1))?;
-    tell(out, b"reading it", hand.log_length())?;
+    show(out, "an entry too many", hand.pull(0, 3, 1))?;
+    tell(out, "reading it", hand.log_length())?;
     hand.length = 0;
     hand.records[1] = record(2, 0, 1, 0, Kind::Election { voters: 3 });
     hand.records[2] = record(1, 0, 1, 0, Kind::Election { voters: 3 });
     hand.count = 3;
-    show(out, b"parents in a ring", hand.pull(0, 3, 1))?;
+    show(out, "parents in a ring", hand.pull(0, 3, 1))?;
     hand.count = 1;
     hand.records[0] = record(0, 0, 0, 0, Kind::Commit { voters: 7 });
-    show(out, b"record 0 altered", hand.pull(0, 3, 1))
+    show(out, "record 0 altered", hand.pull(0, 3, 1))
 }
 
 fn main(rt: HostRuntime) -> io::Result<()> {
@@ -198,10 +189,8 @@ fn main(rt: HostRuntime) -> io::Result<()> {
 // The table after so many entries that it is full.
 fn fill(t: Table) -> Table {
     let mut full = t;
-    let mut i: usize = 0;
-    while i < 256 {
+    for _ in 0..256 {
         full = full.invoke(0, 1).state;
-        i += 1;
     }
     full
 }
@@ -209,6 +198,6 @@ fn fill(t: Table) -> Table {
 // A full table takes no entry; a short vote needs no place.
 fn filled(out: Stdout, t: Table) -> io::Result<()> {
     let full = fill(t);
-    show(out, b"invoke on a full table", full.invoke(0, 1))?;
-    show(out, b"a short vote on it", full.pull(1, 2, 2))
+    show(out, "invoke on a full table", full.invoke(0, 1))?;
+    show(out, "a short vote on it", full.pull(1, 2, 2))
 }
