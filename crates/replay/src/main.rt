@@ -6,7 +6,7 @@ ghost use Rattle.std.specs.Prelude.{◌≤◌};
 
 use lines::Line;
 use referee::{Outcome, Table};
-use rules::{Answer, Proposal, Reading};
+use rules::{Answer, Proposal};
 use std::io;
 use std::io::{Read, Stdout, Write};
 
@@ -106,7 +106,7 @@ impl Session {
             return;
         };
         let mut entries = [0u32; 256];
-        if let Reading::Number(n) = table.copy_log(&mut entries) {
+        if let Ok(n) = table.copy_log(&mut entries) {
             if let Some(log) = entries.get(..n as usize) {
                 out.put_log(log);
             }
