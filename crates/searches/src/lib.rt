@@ -18,7 +18,7 @@ pub fn number_of(found: Option<(usize, Record)>) -> usize
 }
 
 // The latest record held by any voter.
-#[tactic(auto, using(rules::proofs::Held::held_by_one, rules::proofs::Held::held_by_none, rules::proofs::Latest::latest_wanted, rules::proofs::Latest::latest_passed), unfolding(rules::specs::Tree::base, rules::specs::Tree::latest))]
+#[tactic(auto, using(rules::proofs::Held::held_by_one, rules::proofs::Held::held_by_none), unfolding(rules::specs::Tree::base, rules::specs::Tree::latest))]
 pub fn base(records: &[Record], voters: u16) -> Option<(usize, Record)>
     ensures { result ≡ base records.now voters }
 {
