@@ -1,4 +1,4 @@
--- What `every` and `count` say of the numbers of a list's elements is what the library's words say of the list.
+-- What `every`, `count` and `entries` say, in the words that the library has for lists; and how long a path is at most.
 use Prim.Native.Nat.{ℕ, zero, suc, ◌+◌, ◌≤◌}
 use native.Mathlib.Omega.{arith}
 use mathlib.Core.Path.{◌≡◌, refl, sym, ap, ◌∙◌}

@@ -55,6 +55,7 @@ module _ (clocks : List ℕ) (i : ℕ) (r : Record) (full : length clocks ≡ 16
   abbrev here : ℕ → Bool
   here node = passed node (clock clocks node)
 
+  -- no clock is early, or one is
   none : every here (length clocks) ≡ true → timely clocks i r ≡ every here (length clocks)
   unfolding concerns
   none e =

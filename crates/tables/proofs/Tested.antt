@@ -42,10 +42,18 @@ module _ (clocks : List ℕ) (records : List Record) (count : ℕ) (log : List �
   unfolding shown
   too_long l = rw (lt-leb size 256 l, and_false_right (leb count 256) refl) (empty clocks [])
 
--- the whole test, where the commits on one path are counted
+-- the path of the latest commit
+abbrev pub branch : List Record → List ℕ
+branch records = path records (number_of (last_commit records))
+
+-- the whole test, where one branch is tested by counting the commits on it
 pub by_count : (clocks : List ℕ) (records : List Record) (log : List ℕ)
     → is_table (record { clocks = clocks; records = records; log = log })
-    ≡ ltb 0 (length records) && leb (length records) 256 && (is_opening (at records 0) && (all_shaped records && (all_timely clocks records && (eqb (commits_along records (path records (number_of (last_commit records)))) (commits_in records) && same log (reverse (entries records (path records (number_of (last_commit records)))))))))
+    ≡ ltb 0 (length records) && leb (length records) 256
+    && (is_opening (at records 0)
+    && (all_shaped records
+    && (all_timely clocks records
+    && (eqb (commits_along records (branch records)) (commits_in records) && same log (reverse (entries records (branch records)))))))
 unfolding is_table counted places rooted logged log_of latest_commit
 by_count clocks records log =
     ⊎_elim

@@ -34,7 +34,6 @@ fn shaped(records: &[Record], r: Record) -> bool
 }
 
 // Is every record but record 0 well shaped?
-#[tactic(auto, unfolding(rules::specs::State::all_shaped))]
 fn all_shaped(records: &[Record]) -> bool
     ensures { result ≡ all_shaped records.now }
 {
@@ -53,7 +52,6 @@ fn concerns(i: usize, r: Record, node: usize) -> bool
 }
 
 // Is no clock of a node that holds or called the record less than its time?
-#[tactic(auto, unfolding(rules::specs::State::timely))]
 fn timely(clocks: [u32; 16], i: usize, r: Record) -> bool
     ensures { result ≡ timely clocks i r }
 {
@@ -64,7 +62,6 @@ fn timely(clocks: [u32; 16], i: usize, r: Record) -> bool
 }
 
 // Is that so of every record?
-#[tactic(auto, unfolding(rules::specs::State::all_timely))]
 fn all_timely(clocks: [u32; 16], records: &[Record]) -> bool
     ensures { result ≡ all_timely clocks records.now }
 {
@@ -75,7 +72,6 @@ fn all_timely(clocks: [u32; 16], records: &[Record]) -> bool
 }
 
 // How many commits are there?
-#[tactic(auto, unfolding(crate::specs::Table::commits_in))]
 fn commits_in(records: &[Record]) -> usize
     ensures { result ≡ commits_in records.now }
 {

@@ -13,5 +13,8 @@ unfolding commits_in
 returns c =
     let s = c.args in
     count_from_yields_List c.filter.result _ c.count.ensures.ran
-    (YieldsList-from_filter _ (λ r. is_commit r) (YieldsList-at c.filter.ensures.source (YieldsList-from_slice s.records.now cc)) c.filter.ensures.closure (λ x b q k. search rules))
+    (YieldsList-from_filter _ (λ r. is_commit r)
+    (YieldsList-at c.filter.ensures.source (YieldsList-from_slice s.records.now cc))
+    c.filter.ensures.closure
+    (λ x b q k. search rules))
     ∙ sym (count_filter blank (λ r. is_commit r) s.records.now)

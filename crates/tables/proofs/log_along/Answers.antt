@@ -26,7 +26,7 @@ returns c =
     (λ x b q k. search rules))
     (λ it e. YieldsList-at e
     (YieldsList-from_map _ (λ n. n)
-    (YieldsList-at c.map.ensures.source (YieldsList-from_rev_slice s.log.now cc))
+    (YieldsList-at c.map.ensures.source (YieldsList-from_rev_slice s.log.now (search rules)))
     c.map.ensures.closure
     (λ x r q k. search rules)))
     ∙ ap₂ (pointwise eqb) (sym (entries_filter s.records.now (path s.records.now s.i))) (map-id (reverse s.log.now))
