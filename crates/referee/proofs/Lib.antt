@@ -1,9 +1,7 @@
 -- What the methods share: reading a struct as a state, and meeting a contract.
 mod Views
 mod Structs
-mod Rests
 mod Heads
-mod Readings
 pub mod Determined
 mod Targets
 mod Commits

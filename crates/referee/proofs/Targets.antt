@@ -1,4 +1,4 @@
--- A push's order of refusals, line by line: what each test of the code says of it.
+-- The target: what is left of a push of it, and that it is a record.
 use Prim.Native.Nat.{ℕ, ◌≤◌, ◌<◌}
 use mathlib.Core.Path.{◌≡◌, refl, sym, ap, ◌∙◌}
 use mathlib.Core.Bool.{Bool, true, false, false≢true, cond, not, ◌&&◌, ◌||◌}
@@ -25,53 +25,34 @@ use Rattle.rules.specs.Refusals.{◌⇒◌, decide}
 use Rattle.rules.specs.Proposals.{Result, refused_in, voted, short, superseded, committed, bad_target, push_on, push}
 use Rattle.records.specs.Used.{shown}
 use Rattle.referee.specs.Rest.{target_of, pushed_on, committed_on}
-use Rattle.referee.proofs.Views.{with_clocks, shown_clocks, table_is, length_is, result}
 
--- The first lines: 16, 2, 6 and 7.
-module _ (s : State) (caller voters target : ℕ) where
-  pub no_table : is_table s ≡ false → push s caller voters target ≡ refused_in s NoTable
-  unfolding push push_on
-  no_table e = rw e
+-- a push after 16, 2, 6 and 7
+pub pushed_on_lem : (s : State) (caller voters target : ℕ) → is_table s ≡ true → caller ≤ 15 → leads s.clocks s.records caller ≡ true
+    → bad_target s caller target ≡ false → push s caller voters target ≡ pushed_on s (at s.records target) caller voters target
+unfolding push push_on pushed_on committed_on
+pushed_on_lem s caller voters target table node leader e =
+    rw (table, le-ltb 15 caller node, leader, e)
+    (ap (λ (r : Result).
+    decide (refused_in s)
+    ((superseded s.records caller t ⇒ Superseded)
+    ∷ (not (has voters caller) ⇒ CallerAbsent)
+    ∷ (not (within voters t.members) ⇒ Stranger)
+    ∷ (some_past voters t.time s.clocks ⇒ ClockPast)
+    ∷ [])
+    r)
+    (parted (quorum voters t.members) (not (on_path s.records (latest_commit s.records) target)) (full s.records)
+    (refused_in s OffBranch)
+    (refused_in s TableFull)
+    (committed (voted s voters t.time) target t caller voters)
+    (short (voted s voters t.time))))
+  where
+    t : Record
+    t = at s.records target
 
-  module _ (table : is_table s ≡ true) where
-    pub no_caller : 15 < caller → push s caller voters target ≡ refused_in s NoSuchCaller
-    unfolding push push_on
-    no_caller l = rw (table, lt-ltb 15 caller l)
-
-    module _ (node : caller ≤ 15) where
-      pub no_leader : leads s.clocks s.records caller ≡ false → push s caller voters target ≡ refused_in s NotLeading
-      unfolding push push_on
-      no_leader e = rw (table, le-ltb 15 caller node, e)
-
-      module _ (leader : leads s.clocks s.records caller ≡ true) where
-        pub no_target : bad_target s caller target ≡ true → push s caller voters target ≡ refused_in s BadTarget
-        unfolding push push_on
-        no_target e = rw (table, le-ltb 15 caller node, leader, e)
-
-        -- and the rest
-        pub pushed_on_lem : bad_target s caller target ≡ false
-            → push s caller voters target ≡ pushed_on s (at s.records target) caller voters target
-        unfolding push push_on pushed_on committed_on
-        pushed_on_lem e =
-            rw (table, le-ltb 15 caller node, leader, e)
-            (ap (λ (r : Result).
-            decide (refused_in s)
-            ((superseded s.records caller (at s.records target) ⇒ Superseded)
-            ∷ (not (has voters caller) ⇒ CallerAbsent)
-            ∷ (not (within voters (at s.records target).members) ⇒ Stranger)
-            ∷ (some_past voters (at s.records target).time s.clocks ⇒ ClockPast)
-            ∷ [])
-            r)
-            (parted (quorum voters (at s.records target).members) (not (on_path s.records (latest_commit s.records) target)) (full s.records)
-            (refused_in s OffBranch)
-            (refused_in s TableFull)
-            (committed (voted s voters (at s.records target).time) target (at s.records target) caller voters)
-            (short (voted s voters (at s.records target).time))))
-          where
-            parted : (q a b : Bool) (x y done less : Result)
-                → cond (q && a) x (cond (q && b) y (cond q done less)) ≡ cond q (cond a x (cond b y done)) less
-            parted true a b x y done less = refl
-            parted false a b x y done less = refl
+    parted : (q a b : Bool) (x y done less : Result)
+        → cond (q && a) x (cond (q && b) y (cond q done less)) ≡ cond q (cond a x (cond b y done)) less
+    parted true a b x y done less = refl
+    parted false a b x y done less = refl
 
 -- a target's number, and 0 where there is none
 number : Fallible (ℕ × Record) Refusal → ℕ

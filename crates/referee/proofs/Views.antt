@@ -27,14 +27,6 @@ use Rattle.records.specs.Used.{shown}
 abbrev state : List ℕ → List Record → List ℕ → State
 state clocks records log = record { clocks = clocks; records = records; log = log }
 
--- a state with other clocks
-abbrev pub with_clocks : List ℕ → State → State
-with_clocks clocks s = state clocks s.records s.log
-
--- what a search finds is a record
-found_known : (wanted : ℕ → Record → Bool) (records : List Record) (i : ℕ) (r : Record) → latest wanted records ≡ Some (i, r) → i < length records
-found_known wanted records i r e = (rw e at (latest_right wanted records)).among
-
 module _ (clocks : List ℕ) (records : List Record) (count : ℕ) (log : List ℕ) (size : ℕ) where
   -- the state of numbers in range
   abbrev pub within : State
@@ -43,17 +35,6 @@ module _ (clocks : List ℕ) (records : List Record) (count : ℕ) (log : List �
   pub shown_is : count ≤ 256 → size ≤ 256 → shown clocks records count log size ≡ within
   unfolding shown
   shown_is few short = rw (le-leb count 256 few, le-leb size 256 short)
-
-  -- other clocks, and nothing else
-  pub shown_clocks : (other : List ℕ) → shown other records count log size ≡ with_clocks other (shown clocks records count log size)
-  unfolding shown
-  shown_clocks other = go (leb count 256 && leb size 256)
-    where
-      go : (b : Bool)
-          → cond b (state other (take count records) (take size log)) (state other [] [])
-          ≡ with_clocks other (cond b within (state clocks [] []))
-      go true = refl
-      go false = refl
 
   -- the clocks are the struct's own
   pub clocks_is : (shown clocks records count log size).clocks ≡ clocks
@@ -80,30 +61,6 @@ module _ (clocks : List ℕ) (records : List Record) (count : ℕ) (log : List �
     pub short : size ≤ 256
     short = leb-true size 256 (and_right (leb count 256) (leb size 256) in_range)
 
-    pub table_is : shown clocks records count log size ≡ within
-    table_is = shown_is few short
-
-    pub records_is : (shown clocks records count log size).records ≡ take count records
-    records_is = ap (λ s. s.records) table_is
-
-    -- the parents of a table's records are lower
-    pub table_rising : Rising (take count records)
-    table_rising = rising (take count records) (table_says within (ap is_table (sym table_is) ∙ table)).shaped
-
-    -- what a node called is a record
-    pub called_known : (node i : ℕ) (h : Record) → last_called (shown clocks records count log size).records node ≡ Some (i, h)
-        → i < length (take count records)
-    unfolding last_called
-    called_known node i h e =
-        found_known (λ j r. called r node) (take count records) i h (ap (λ rs. latest (λ j r. called r node) rs) (sym records_is) ∙ e)
-
-    module _ (places' : length records ≡ 256) where
-      pub length_is : length (take count records) ≡ count
-      length_is = length-take-le count records (let l = few in omega arith)
-
-      pub some : 0 < count
-      some = omega (arith, length_is, (table_says within (ap is_table (sym table_is) ∙ table)).some_records)
-
 -- a vote's clocks
 pub shown_voted : (clocks : List ℕ) (records : List Record) (count : ℕ) (log : List ℕ) (size voters time : ℕ) (after : List ℕ)
     → after ≡ moved voters time clocks
@@ -116,21 +73,6 @@ shown_voted clocks records count log size voters time after e = rw e (go (leb co
         ≡ voted (cond b (state clocks (take count records) (take size log)) (state clocks [] [])) voters time
     go true = refl
     go false = refl
-
--- whether a table is full is told by its count
-module _ (clocks : List ℕ) (records : List Record) (count : ℕ) (log : List ℕ) (size : ℕ)
-    (table : is_table (shown clocks records count log size) ≡ true) (whole : length records ≡ 256) where
-  full_is : full (shown clocks records count log size).records ≡ leb 256 count
-  unfolding full places
-  full_is =
-      ap (λ s. leb 256 (length s.records)) (table_is clocks records count log size table)
-      ∙ ap (leb 256) (length_is clocks records count log size table whole)
-
-  pub is_full : 255 < count → full (shown clocks records count log size).records ≡ true
-  is_full l = full_is ∙ le-leb 256 count l
-
-  pub has_room : count ≤ 255 → full (shown clocks records count log size).records ≡ false
-  has_room l = full_is ∙ lt-leb 256 count (omega arith)
 
 abbrev pub result : State → Answer → Result
 result s a = record { state = s; answer = a }

@@ -34,7 +34,7 @@ impl Table {
     }
 
     // Refusals 16, 2, 1 and 6, and the change.
-    #[tactic(auto, using(crate::proofs::Heads::reconfigure_16, crate::proofs::Heads::reconfigure_2, crate::proofs::Heads::reconfigure_1, crate::proofs::Heads::reconfigure_6, crate::proofs::Heads::reconfigure_rest))]
+    #[tactic(auto, using(crate::proofs::Heads::reconfigure_rest), unfolding(rules::specs::Proposals::reconfigure, rules::specs::Proposals::reconfigure_on, rules::specs::Nodes::empty))]
     fn reconfigured(&self, caller: u32, new: u16) -> Result<Done, Refusal>
         ensures { seen (outcome self.now result) ≡ reconfigure (view self.now) caller new }
     {
