@@ -16,11 +16,3 @@ used_small count = omega arith
 pub used_is : (count n : ℕ) → n ≡ min count 256 → n ≡ used count
 unfolding used
 used_is count n e = e
-
-pub used_length : (records : List Record) (count : ℕ) → length records ≡ 256 → length (take count records) ≡ used count
-unfolding used
-used_length records count e = length-take count records ∙ ap (min count) e
-
-pub used_at : (records : List Record) (count i : ℕ) → i < used count → at (take count records) i ≡ at records i
-unfolding used
-used_at records count i l = get_or-take count records i blank (omega arith)

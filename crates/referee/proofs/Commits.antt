@@ -15,7 +15,7 @@ use Rattle.rules.specs.State.{State, places, entries, is_table, full}
 use Rattle.rules.specs.Clocks.{moved}
 use Rattle.rules.specs.Proposals.{Result, refused_in, voted, added, adopted, before, gained, commit_for, committed}
 use Rattle.rules.proofs.State.{Table, table_says}
-use Rattle.rules.proofs.Paths.{Rising, rising}
+use Rattle.rules.proofs.Paths.{rising}
 use Rattle.records.specs.Used.{used}
 use Rattle.moves.proofs.Gained.{gain_few}
 use Rattle.referee.specs.declared.Table as Struct

@@ -2,28 +2,25 @@
 use Prim.Native.Nat.{ℕ, ◌≤◌, ◌<◌}
 use mathlib.Core.Path.{◌≡◌, refl, sym, ap, ◌∙◌}
 use mathlib.Core.Bool.{Bool, true, false, false≢true, cond, not, ◌&&◌, ◌||◌}
-use mathlib.Core.List.{List, [], ◌∷◌}
+use mathlib.Core.List.{[], ◌∷◌}
 use native.Mathlib.Omega.{arith}
-use borrow.Author.Tests.{lt-ltb, le-ltb, leb-false}
+use borrow.Author.Tests.{le-ltb, leb-false}
 use lib.Dec.{eqb, leb}
-use lib.ListN.{length, take}
-use lib.Seq.{get_or-take}
+use lib.ListN.{length}
 use Rattle.rules.specs.declared.Record.{Record}
 use Rattle.rules.specs.declared.Refusal.{Refusal}
 use Rattle.std.specs.Prelude.{Result as Fallible, Ok, Err, is_ok}
 use mathlib.Core.Logic.{⊎_elim}
 use Rattle.rules.proofs.Bools.{tested, or_left}
-use Rattle.rules.specs.declared.Answer.TheVariants.{Short}
-use Rattle.rules.specs.declared.Refusal.TheVariants.{NoSuchCaller, CallerAbsent, Stranger, ClockPast, NotLeading, BadTarget, Superseded, TableFull, NoTable, OffBranch}
+use Rattle.rules.specs.declared.Refusal.TheVariants.{CallerAbsent, Stranger, ClockPast, BadTarget, Superseded, TableFull, OffBranch}
 use Rattle.rules.specs.Nodes.{has}
 use Rattle.rules.specs.Scheme.{quorum, within}
-use Rattle.rules.specs.Clocks.{clock, moved, some_past}
-use Rattle.rules.specs.Records.{blank, at, is_entry, called}
-use Rattle.rules.specs.Tree.{leading, leads, last_called, on_path, latest_commit}
+use Rattle.rules.specs.Clocks.{clock, some_past}
+use Rattle.rules.specs.Records.{at, is_entry, called}
+use Rattle.rules.specs.Tree.{leads, on_path, latest_commit}
 use Rattle.rules.specs.State.{State, is_table, full}
 use Rattle.rules.specs.Refusals.{◌⇒◌, decide}
 use Rattle.rules.specs.Proposals.{Result, refused_in, voted, short, superseded, committed, bad_target, push_on, push}
-use Rattle.records.specs.Used.{shown}
 use Rattle.referee.specs.Rest.{target_of, pushed_on, committed_on}
 
 -- a push after 16, 2, 6 and 7

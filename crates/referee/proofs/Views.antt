@@ -5,23 +5,17 @@ use native.Mathlib.Omega.{arith}
 use mathlib.Core.Path.{◌≡◌, refl, sym, ap, ◌∙◌}
 use mathlib.Core.Bool.{Bool, true, false, cond, ◌&&◌}
 use mathlib.Core.List.{List, [], ◌∷◌, ◌++◌}
-use borrow.Author.Tests.{le-leb, lt-leb, leb-true}
+use borrow.Author.Tests.{le-leb, leb-true}
 use lib.Dec.{leb}
 use lib.ListN.{length, take, set}
 use lib.Seq.{take-suc-set, length-take-le}
 use Rattle.rules.specs.declared.Record.{Record}
-use Rattle.rules.specs.State.{State, places, full, is_table, counted}
+use Rattle.rules.specs.State.{State, is_table, counted}
 use Rattle.rules.specs.Clocks.{moved}
 use Rattle.rules.specs.Proposals.{Result, added, voted}
 use Rattle.rules.specs.declared.Answer.{Answer}
 use Rattle.rules.specs.declared.Answer.TheVariants.{Accepted}
 use Rattle.rules.proofs.Bools.{and_left, and_right}
-use Rattle.rules.proofs.State.{table_says}
-use Rattle.std.specs.Prelude.{Option, Some, None}
-use Rattle.rules.specs.Records.{called}
-use Rattle.rules.specs.Tree.{latest, last_called}
-use Rattle.rules.proofs.Latest.{latest_right}
-use Rattle.rules.proofs.Paths.{Rising, rising}
 use Rattle.records.specs.Used.{shown}
 
 abbrev state : List ℕ → List Record → List ℕ → State

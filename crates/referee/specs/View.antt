@@ -1,5 +1,5 @@
 -- A struct is read as the state that its parts show; an outcome, as a result of rules.
-use Rattle.std.specs.Prelude.{ℕ, ◌+◌, ◌≡◌, Bool, false, cond, List, ◌++◌, map, length, take, drop, Option, Some, None, Result as Fallible, Ok, Err, ltb, set}
+use Rattle.std.specs.Prelude.{ℕ, ◌+◌, ◌≡◌, false, cond, List, ◌++◌, map, length, take, drop, Option, Some, None, Result as Fallible, Ok, Err, ltb, set}
 use Rattle.rules.specs.declared.Refusal.{Refusal}
 use Rattle.rules.specs.declared.Record.{Record}
 use Rattle.rules.specs.declared.Refusal.TheVariants.{NoTable, TableFull}

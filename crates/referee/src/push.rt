@@ -64,7 +64,10 @@ impl Tested<'_> {
         let Some(&t) = self.records.get(target as usize) else {
             return Err(Refusal::BadTarget);
         };
-        if !records::is_entry(t) || !records::called(t, usize::from(caller)) || t.time != self.clock(caller) {
+        if !records::is_entry(t)
+            || !records::called(t, usize::from(caller))
+            || t.time != self.clock(caller)
+        {
             return Err(Refusal::BadTarget);
         }
         Ok((target as u8, t))

@@ -30,7 +30,10 @@ impl Table {
         ensures { result ≡ read_record (view self) i }
     {
         let records = self.tested()?.records;
-        records.get(i as usize).copied().ok_or(Refusal::NoSuchNumber)
+        records
+            .get(i as usize)
+            .copied()
+            .ok_or(Refusal::NoSuchNumber)
     }
 
     // What does the clock of a node say?
@@ -39,7 +42,10 @@ impl Table {
         ensures { result ≡ read_clock (view self) node }
     {
         let clocks = self.tested()?.clocks;
-        clocks.get(node as usize).copied().ok_or(Refusal::NoSuchNumber)
+        clocks
+            .get(node as usize)
+            .copied()
+            .ok_or(Refusal::NoSuchNumber)
     }
 
     // Copies the log to the buffer's first places and answers its length. Further places keep what they had; refused, all do.

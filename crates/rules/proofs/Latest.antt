@@ -1,7 +1,6 @@
 -- A search finds the latest of the wanted records, of equal ones the lowest number, and nothing else does.
-use Prim.Native.Nat.{ℕ, zero, suc, ◌+◌, ◌<◌}
+use Prim.Native.Nat.{ℕ, zero, suc, ◌<◌}
 use native.Mathlib.Nat.{not-suc-le-zero}
-use native.Mathlib.Numerals.{add-one}
 use native.Mathlib.Omega.{arith}
 use mathlib.Core.Path.{◌≡◌, refl, sym, ap, subst, ◌∙◌}
 use mathlib.Core.Logic.{⊎_elim}
@@ -127,15 +126,6 @@ latest_found {wanted} {records} {i} {r} a = go (latest wanted records) refl (lat
       where
         same : j ≡ i → q ≡ r → ◌≡◌ {A = Option (ℕ × Record)} (Some (j, q)) (Some (i, r))
         same p s = cc
-
--- one record more, as a loop counts
-pub latest_wanted : (wanted : ℕ → Record → Bool) (records : List Record) (n : ℕ) → wanted n (at records n) ≡ true
-    → latest_of wanted records (n + 1) ≡ later (latest_of wanted records n) n (at records n)
-latest_wanted wanted records n e = rw (add-one, e)
-
-pub latest_passed : (wanted : ℕ → Record → Bool) (records : List Record) (n : ℕ) → wanted n (at records n) ≡ false
-    → latest_of wanted records (n + 1) ≡ latest_of wanted records n
-latest_passed wanted records n e = rw (add-one, e)
 
 -- the number of what was found is a record's, and so is 0 where nothing was
 pub latest_known : (wanted : ℕ → Record → Bool) (records : List Record) → 0 < length records

@@ -1,16 +1,18 @@
--- What `every`, `count` and `entries` say, in the words that the library has for lists; and how long a path is at most.
+-- What `every`, `some`, `count` and `entries` say, in the words that the library has for lists; and how long a path is at most.
 use Prim.Native.Nat.{ℕ, zero, suc, ◌+◌, ◌≤◌}
 use native.Mathlib.Omega.{arith}
 use mathlib.Core.Path.{◌≡◌, refl, sym, ap, ◌∙◌}
-use mathlib.Core.Bool.{Bool, true, false, cond, ◌&&◌, and-true, and_assoc}
+use mathlib.Core.Bool.{Bool, true, false, cond, ◌&&◌, ◌||◌, and-true, and_assoc}
 use mathlib.Core.List.{List, [], ◌∷◌}
 use lib.ListN.{length, get_or}
-use Rattle.std.specs.List.{filter, list_all, enumerate_from}
+use Rattle.std.specs.List.{filter, list_all, list_any, enumerate_from}
+use Rattle.std.proofs.Math.Bool.{or_assoc}
 use Rattle.rules.specs.declared.Record.{Record}
-use Rattle.rules.specs.First.{count, every}
+use Rattle.rules.specs.First.{count, every, some}
 use Rattle.rules.specs.Records.{at, is_entry}
 use Rattle.rules.specs.Tree.{path_of, path}
 use Rattle.rules.specs.State.{entries}
+use Rattle.rules.proofs.Bools.{or_nothing}
 use Rattle.rules.proofs.First.{one}
 
 -- the first number apart from the others
@@ -38,6 +40,16 @@ every_numbered d p [] = refl
 every_numbered d p (x ∷ xs) =
     every_front (λ i. p i (get_or (x ∷ xs) i d)) (length xs)
     ∙ ap (λ b. p 0 x && b) (every_numbered d (λ i. p (suc i)) xs ∙ sym (numbered_more p 0 xs))
+
+-- some element of a list passes, as `any` tells it
+pub some_any : {X : Type 0} (d : X) (p : X → Bool) (xs : List X) → some (λ i. p (get_or xs i d)) (length xs) ≡ list_any p xs
+some_any d p [] = refl
+some_any d p (x ∷ xs) =
+    front (λ i. p (get_or (x ∷ xs) i d)) (length xs) ∙ ap (λ b. p x || b) (some_any d p xs)
+  where
+    front : (q : ℕ → Bool) (n : ℕ) → some q (suc n) ≡ q zero || some (λ i. q (suc i)) n
+    front q zero = sym (or_nothing (q zero))
+    front q (suc n) = ap (λ b. b || q (suc n)) (front q n) ∙ or_assoc (q zero) (some (λ i. q (suc i)) n) (q (suc n))
 
 -- how many elements pass, as `count` after `filter` tells it
 pub count_filter : {X : Type 0} (d : X) (p : X → Bool) (xs : List X)

@@ -8,7 +8,8 @@ use Rattle.std.specs.Iterator.Adapters.{filter_source, take_while_source}
 use Rattle.rules.specs.Records.{at, is_entry}
 use Rattle.rules.specs.Tree.{path}
 use Rattle.paths.specs.Onward.{onward}
-use Rattle.moves.proofs.Gained.{path_few, gained_filter}
+use Rattle.moves.proofs.Gained.{gained_filter}
+use Rattle.rules.proofs.Lists.{path_few}
 use Rattle.moves.proofs.gains.Goals as goal
 
 pub count-requires-clause-fits : goal.count-requires-clause-fits

@@ -5,7 +5,7 @@ use Rattle.std.proofs.lemmas.Iterator.Search.{any_from_yields_List}
 use Rattle.rules.specs.declared.Record.{Record}
 use Rattle.rules.specs.Records.{blank}
 use Rattle.rules.specs.Proposals.{supersedes, superseded}
-use Rattle.rules.proofs.First.{some_any}
+use Rattle.rules.proofs.Lists.{some_any}
 use Rattle.searches.proofs.superseded.Goals as goal
 
 pub returns : goal.returns

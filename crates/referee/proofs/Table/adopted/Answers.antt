@@ -1,8 +1,7 @@
 -- The records in use are adopted, and the places after them keep what they had.
-use Rattle.std.proofs.Common.{arith, ◌-◌, ◌≡◌, ◌++◌, ℕ, List, map, take, drop, ◌∙◌, ap}
+use Rattle.std.proofs.Common.{arith, ◌-◌, ◌≡◌, ◌++◌, map, take, drop, ◌∙◌, ap}
 use Rattle.rules.specs.Proposals.{adopted}
 use Rattle.records.specs.Used.{used}
-use Rattle.referee.specs.declared.Table.{Table}
 use Rattle.referee.proofs.Table.adopted.Goals as goal
 
 pub returns : goal.returns

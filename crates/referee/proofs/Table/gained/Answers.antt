@@ -1,12 +1,11 @@
 -- The places after the log's entries hold the entries gained, the oldest first.
-use Rattle.std.proofs.Common.{◌≡◌, ℕ, ◌+◌, ◌-◌, List, ◌++◌, length, take, drop, reverse, sym, ap, ap₂, ◌∙◌, arith, rules, length-drop}
+use Rattle.std.proofs.Common.{◌≡◌, ◌+◌, ◌-◌, ◌++◌, length, take, drop, reverse, ◌∙◌, arith, rules, length-drop}
 use lib.ListN.{length-reverse}
 use lib.Seq.{length-take-le}
 use Rattle.moves.proofs.Shown.{written_all}
 use Rattle.rules.specs.State.{entries}
 use Rattle.rules.specs.Tree.{path}
 use Rattle.rules.specs.Proposals.{before}
-use Rattle.referee.specs.declared.Table.{Table}
 use Rattle.referee.proofs.Table.gained.Goals as goal
 
 pub returns : goal.returns

@@ -1,9 +1,7 @@
 -- The log has a place for what it gains, and what the struct shows afterwards is what rules make of the table.
-use Rattle.std.proofs.Common.{◌≡◌, ◌≤◌, arith, rules, sym, ap, ◌∙◌, true, length, ℕ}
+use Rattle.std.proofs.Common.{◌≡◌, arith, sym, ap, ◌∙◌, length}
 use Rattle.std.proofs.lemmas.Grind.{common_steps}
-use Rattle.rules.specs.Tree.{number_of, on_path, last_commit}
-use Rattle.referee.specs.declared.Table.{Table}
-use Rattle.referee.specs.View.{view, seen, outcome, placed, revoted, extended, regrouped}
+use Rattle.rules.specs.Tree.{number_of, on_path}
 use Rattle.referee.proofs.Commits.{fits, seen_commit}
 use Rattle.referee.proofs.tested.Tested.commit.Goals as goal
 
