@@ -119,7 +119,7 @@ pub fn print(answer: Answer, out: &mut [u8]) -> usize
     ensures { outcome out.new result ≡ put (answer_line answer) 0 out.old }
 {
     match answer {
-        Answer::Accepted(n) => write::put_numbered(b'A', n as u32, out),
+        Answer::Accepted(n) => write::put_numbered(b'A', u32::from(n), out),
         Answer::Short => write::put_letter(b'U', out),
         Answer::Refused(refusal) => write::put_numbered(b'X', number(refusal), out),
     }

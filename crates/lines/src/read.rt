@@ -32,7 +32,7 @@ fn digits(word: &[u8]) -> Option<u32>
         if !byte.is_ascii_digit() {
             return None;
         }
-        value = value.checked_mul(10)?.checked_add((byte - b'0') as u32)?;
+        value = value.checked_mul(10)?.checked_add(u32::from(byte - b'0'))?;
     }
     Some(value)
 }

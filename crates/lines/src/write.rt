@@ -23,7 +23,7 @@ pub fn fits(numbers: &[u32], room: usize) -> bool
 {
     let mut free = room;
     for &n in numbers {
-        let count = width(n as u64);
+        let count = width(u64::from(n));
         if free <= count {
             return false;
         }
@@ -69,7 +69,7 @@ pub fn put_numbers(numbers: &[u32], at: usize, out: &mut [u8]) -> usize
     }
     let mut place = at;
     for &n in numbers {
-        place = put_number(n as u64, place, out);
+        place = put_number(u64::from(n), place, out);
     }
     place
 }
@@ -79,7 +79,7 @@ pub fn put_numbers(numbers: &[u32], at: usize, out: &mut [u8]) -> usize
 pub fn put_numbered(letter: u8, n: u32, out: &mut [u8]) -> usize
     ensures { outcome out.new result ≡ put (line letter (spaced n)) 0 out.old }
 {
-    let number = n as u64;
+    let number = u64::from(n);
     let count = width(number);
     if out.len() < count + 3 {
         return 0;

@@ -68,6 +68,7 @@ pub fn holds(i: usize, r: Record, node: usize) -> bool
 }
 
 // Did the node call the record?
+#[tactic(auto, unfolding(rules::specs::Records::called))]
 pub fn called(r: Record, node: usize) -> bool
     ensures { result ≡ called r node }
 {

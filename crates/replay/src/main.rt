@@ -10,7 +10,7 @@ use rules::{Answer, Proposal};
 use std::io;
 use std::io::{Read, Stdout, Write};
 
-// Lines of output that wait to be written: so many bytes of the buffer.
+// Lines of output that wait to be written: the first bytes of the buffer, `length` of them.
 #[derive(Drop)]
 struct Output {
     bytes: [u8; 65536],
@@ -39,7 +39,7 @@ impl Output {
     }
 }
 
-// The present table, none before the first accepted opening, and the line begun: so many bytes.
+// The present table, none before the first accepted opening, and the line begun, `length` bytes of it so far.
 #[derive(Drop)]
 struct Session {
     table: Option<Table>,
@@ -106,14 +106,15 @@ impl Session {
             return;
         };
         let mut entries = [0u32; 256];
-        if let Ok(n) = table.copy_log(&mut entries) {
-            if let Some(log) = entries.get(..n as usize) {
-                out.put_log(log);
-            }
+        if let Ok(n) = table.copy_log(&mut entries)
+            && let Some(log) = entries.get(..n as usize)
+        {
+            out.put_log(log);
         }
     }
 }
 
+// The table after a proposal, and the answer.
 fn proposed(t: Table, proposal: Proposal) -> Outcome {
     match proposal {
         Proposal::Pull {
