@@ -9,11 +9,11 @@ use rules::{Record, Refusal};
 
 // A state that passed the test: its clocks, its records in use and its log's entries.
 #[derive(Clone, Copy)]
-pub struct Tested<'a> {
-    pub table: &'a Table,
-    pub clocks: [u32; 16],
-    pub records: &'a [Record],
-    pub log: &'a [u32],
+pub(super) struct Tested<'a> {
+    pub(super) table: &'a Table,
+    pub(super) clocks: [u32; 16],
+    pub(super) records: &'a [Record],
+    pub(super) log: &'a [u32],
     ghost sound: { is_table (view table.now) ≡ true },
     ghost places: { length table.now.records ≡ 256 },
     ghost pages: { length table.now.log ≡ 256 },
@@ -25,7 +25,7 @@ pub struct Tested<'a> {
 }
 
 // The node that a caller's number stands for; 2 where it is over 15.
-pub fn node(caller: u32) -> Result<u8, Refusal>
+pub(super) fn node(caller: u32) -> Result<u8, Refusal>
     ensures { result ≡ node_of caller }
 {
     if caller > 15 {
@@ -37,7 +37,7 @@ pub fn node(caller: u32) -> Result<u8, Refusal>
 impl Table {
     // The state as a table; 16 where it is none.
     #[tactic(auto, using(crate::proofs::Structs::too_many, crate::proofs::Structs::too_long, crate::proofs::Structs::view_is))]
-    pub fn tested(&self) -> Result<Tested<'_>, Refusal>
+    pub(super) fn tested(&self) -> Result<Tested<'_>, Refusal>
         ensures { MatchResult result (λ w. w.table.now ≡ self.now) (Fails (view self.now)) }
     {
         let records = self.records.get(..self.count).ok_or(Refusal::NoTable)?;
@@ -60,7 +60,7 @@ impl<'a> Tested<'a> {
     ghost use Rattle.referee.specs.Rest.{head_of};
 
     // The clock of a node.
-    pub fn clock(self, node: u8) -> u32
+    pub(super) fn clock(self, node: u8) -> u32
         ensures { result ≡ clock (tested self.entry).clocks node }
     {
         self.clocks.get(usize::from(node)).copied().unwrap_or(0)
@@ -68,7 +68,7 @@ impl<'a> Tested<'a> {
 
     // The head of a node, with its number; 6 where the node doesn't lead.
     #[tactic(auto, using(crate::proofs::Heads::leads_none, crate::proofs::Heads::leads_by, rules::proofs::Searches::called_small))]
-    pub fn head(self, caller: u8) -> Result<(u8, Record), Refusal>
+    pub(super) fn head(self, caller: u8) -> Result<(u8, Record), Refusal>
         ensures { result ≡ head_of (tested self.entry) caller }
     {
         let Some((i, h)) = searches::last_called(self.records, usize::from(caller)) else {
