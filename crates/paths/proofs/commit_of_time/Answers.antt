@@ -19,5 +19,5 @@ returns c =
     (YieldsList-from_first (λ x. x) onward (path s.records.now s.i) (ap onward c.map.ensures.source ∙ c.path.ensures))
     c.map.ensures.closure
     (λ x r q k. search rules))
-    (λ x b q k. search (rules, tests))
+    (λ x b q k. (search (rules, tests), search (rules, tests)))
     ∙ sym (commit_any s.records.now s.time (path s.records.now s.i))

@@ -14,5 +14,5 @@ returns c =
     let s = c.args in
     any_from_yields_List (λ j. eqb s.a j) c.any.new.self _ _ c.any.ensures.ran
     (YieldsList-from_first (λ x. x) onward (path s.records.now s.i) c.path.ensures)
-    (λ x b q k. search (rules, tests))
+    (λ x b q k. (search (rules, tests), search (rules, tests)))
     ∙ sym (among_any s.a (path s.records.now s.i))
