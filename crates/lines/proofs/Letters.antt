@@ -9,9 +9,8 @@ use lib.Dec.{eqb}
 use lib.ListN.{length, get_or, take, drop}
 use lib.Seq.{take_all}
 use Rattle.std.proofs.Common.{Some, None}
-use Rattle.std.specs.List.{onto_first}
 use Rattle.lines.specs.declared.Line.TheVariants.{Open}
-use Rattle.lines.specs.Words.{words}
+use Rattle.lines.specs.Words.{onto, words}
 use Rattle.lines.specs.Parse.{lettered, line_of, parsed}
 use Rattle.lines.proofs.Words.{words_some}
 
@@ -25,7 +24,7 @@ line_of_lem : (b : ℕ) (rest : List ℕ) → line_of ((b ∷ []) ∷ words rest
 line_of_lem b rest = let more = words_some rest in rw more.2
 
 -- a first word of two bytes and more
-line_glued : (b c : ℕ) (rest : List ℕ) → line_of (onto_first b (onto_first c (words rest))) ≡ None
+line_glued : (b c : ℕ) (rest : List ℕ) → line_of (onto b (onto c (words rest))) ≡ None
 line_glued b c rest = let more = words_some rest in rw more.2
 
 line_spaced : (b c : ℕ) (rest : List ℕ) → c ≡ 32 → line_of (words (b ∷ c ∷ rest)) ≡ lettered b (words rest)
@@ -38,7 +37,7 @@ line_spaced b c rest e = rw (eq-eqb c 32 e) (go (eqb b 32) refl)
 line_joined : (b c : ℕ) (rest : List ℕ) → (c ≡ 32 → ⊥) → line_of (words (b ∷ c ∷ rest)) ≡ None
 line_joined b c rest d = rw (ne_eqb c 32 d) (go (eqb b 32))
   where
-    go : (t : Bool) → line_of (cond t ([] ∷ onto_first c (words rest)) (onto_first b (onto_first c (words rest)))) ≡ None
+    go : (t : Bool) → line_of (cond t ([] ∷ onto c (words rest)) (onto b (onto c (words rest)))) ≡ None
     go true = refl
     go false = line_glued b c rest
 

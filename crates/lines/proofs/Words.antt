@@ -2,7 +2,7 @@
 use Prim.Native.Nat.{ℕ, suc, ◌+◌, ◌-◌, ◌≤◌}
 use native.Mathlib.Nat.{le_refl}
 use native.Mathlib.Omega.{arith}
-use mathlib.Core.Path.{◌≡◌, refl}
+use mathlib.Core.Path.{◌≡◌, refl, sym, ap, ◌∙◌}
 use mathlib.Core.Bool.{Bool, true, false, cond, not}
 use mathlib.Core.List.{List, [], ◌∷◌}
 use borrow.Author.Tests.{ltb-true, ltb-false}
@@ -10,10 +10,10 @@ use lib.Dec.{ltb}
 use lib.ListN.{length, take, drop, length-drop}
 use lib.Seq.{take_all}
 use Rattle.std.proofs.Common.{Some, None}
-use Rattle.std.specs.List.{position, position_or_len, onto_first}
+use Rattle.std.specs.List.{position, position_or_len, onto_first, slice_split}
 use Rattle.std.proofs.lemmas.List.Splits.{slice_split_first}
 use Rattle.std.proofs.lemmas.Option.{cond_some}
-use Rattle.lines.specs.Words.{space, words}
+use Rattle.lines.specs.Words.{space, onto, words}
 
 -- there is always a word
 pub words_some : (bytes : List ℕ) → (v : List ℕ) × (more : List (List ℕ)) × (words bytes ≡ v ∷ more)
@@ -21,9 +21,22 @@ words_some [] = ([], [], refl)
 words_some (b ∷ bytes) = go (space b) (words_some bytes)
   where
     go : (t : Bool) → (v : List ℕ) × (more : List (List ℕ)) × (words bytes ≡ v ∷ more)
-        → (v : List ℕ) × (more : List (List ℕ)) × (cond t ([] ∷ words bytes) (onto_first b (words bytes)) ≡ v ∷ more)
+        → (v : List ℕ) × (more : List (List ℕ)) × (cond t ([] ∷ words bytes) (onto b (words bytes)) ≡ v ∷ more)
     go true some = ([], words bytes, refl)
     go false some = (b ∷ some.0, some.1, rw some.2)
+
+-- words are what the library's split at spaces gives
+words_are : (bytes : List ℕ) → words bytes ≡ slice_split space bytes
+words_are [] = refl
+words_are (b ∷ bytes) = go (words_are bytes) (space b)
+  where
+    same : (ws : List (List ℕ)) → (v : List ℕ) × (more : List (List ℕ)) × (ws ≡ v ∷ more) → onto b ws ≡ onto_first b ws
+    same ws some = rw some.2
+
+    go : words bytes ≡ slice_split space bytes → (t : Bool)
+        → cond t ([] ∷ words bytes) (onto b (words bytes)) ≡ cond t ([] ∷ slice_split space bytes) (onto_first b (slice_split space bytes))
+    go are true = ap (λ ws. [] ∷ ws) are
+    go are false = same (words bytes) (words_some bytes) ∙ ap (onto_first b) are
 
 one_word : (bytes : List ℕ) → length bytes ≤ position_or_len space bytes → words bytes ≡ bytes ∷ []
 one_word [] l = refl
@@ -31,7 +44,7 @@ one_word (b ∷ bytes) l = go (space b) (one_word bytes) l
   where
     go : (t : Bool) → (length bytes ≤ position_or_len space bytes → words bytes ≡ bytes ∷ [])
         → suc (length bytes) ≤ cond (not t) (1 + position_or_len space bytes) 0
-        → cond t ([] ∷ words bytes) (onto_first b (words bytes)) ≡ (b ∷ bytes) ∷ []
+        → cond t ([] ∷ words bytes) (onto b (words bytes)) ≡ (b ∷ bytes) ∷ []
     go true rest m = absurd (omega arith)
     go false rest m = rw (rest (omega arith))
 
@@ -51,4 +64,6 @@ module _ (bytes : List ℕ) where
   words_split end e =
       let found = cond_some (ltb (position_or_len space bytes) (length bytes)) (position_or_len space bytes) end e in
       rw (take_all (length bytes - (end + 1)) (drop (end + 1) bytes) (rw length-drop (le_refl (length bytes - (end + 1)))), ← found.1)
-      (slice_split_first space bytes 0 (ltb-true (position_or_len space bytes) (length bytes) found.0))
+      (words_are bytes
+      ∙ slice_split_first space bytes 0 (ltb-true (position_or_len space bytes) (length bytes) found.0)
+      ∙ ap (λ ws. take (position_or_len space bytes) bytes ∷ ws) (sym (words_are (drop (position_or_len space bytes + 1) bytes))))

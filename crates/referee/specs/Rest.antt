@@ -8,7 +8,7 @@ use Rattle.rules.specs.declared.Refusal.TheVariants.{NoSuchCaller, CallerAbsent,
 use Rattle.rules.specs.Nodes.{has}
 use Rattle.rules.specs.Scheme.{quorum, within, next}
 use Rattle.rules.specs.Clocks.{some_past}
-use Rattle.rules.specs.Records.{at, is_entry, called}
+use Rattle.rules.specs.Records.{at}
 use Rattle.rules.specs.Tree.{number_of, record_of, last_called, leads, on_path, open_change, commit_of_time, latest_commit}
 use Rattle.rules.specs.State.{State, full}
 use Rattle.rules.specs.Refusals.{◌⇒◌, decide}
@@ -55,10 +55,6 @@ changed_on s i h caller new =
     ∷ (not (commit_of_time s.records h.time i) ⇒ NoCommitYet)
     ∷ [])
     (grown_on s i h caller new Change)
-
--- a command or change of this caller, with this time
-unfoldable pub aimed : Record → ℕ → ℕ → Bool
-aimed t caller time = is_entry t && (called t caller && eqb t.time time)
 
 -- a push that a majority votes for, after 16, 2, 6, 7, 8, 3, 4 and 5: 17, 12
 unfoldable pub committed_on : State → Record → ℕ → ℕ → ℕ → Result
