@@ -61,7 +61,8 @@ impl Tested<'_> {
     fn target(self, caller: u8, target: u32) -> Result<(u8, Record), Refusal>
         ensures { result ≡ target_of (tested self.entry) caller target }
     {
-        let Some(&t) = self.records.get(target as usize) else {
+        let target = u8::try_from(target).map_err(|_| Refusal::BadTarget)?;
+        let Some(&t) = self.records.get(usize::from(target)) else {
             return Err(Refusal::BadTarget);
         };
         if !records::is_entry(t)
@@ -70,7 +71,7 @@ impl Tested<'_> {
         {
             return Err(Refusal::BadTarget);
         }
-        Ok((target as u8, t))
+        Ok((target, t))
     }
 
     // The rest of a push of the target, whose record is t: refusals 8, 3, 4 and 5, and the vote.
