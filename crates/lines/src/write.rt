@@ -1,9 +1,10 @@
-// Bytes put into a lent buffer: all of them where they fit, else none.
+// Bytes put into a lent buffer: all of them where they fit, else none. Each function answers the place after them, or the place where
+// they should have begun: so says `put`.
 ghost use Rattle.std.specs.Prelude.{◌≡◌, [], leb, length};
 ghost use Rattle.lines.specs.Numbers.{digits};
 ghost use Rattle.lines.specs.Print.{line, spaced, spaced_all, outcome, put};
 
-// How many digits has a number?
+// How many digits has a number? The loop divides; there is nothing to go over.
 #[tactic(auto, using(crate::proofs::Digits::digits_one, crate::proofs::Digits::digits_longer))]
 pub fn width(n: u64) -> usize
     ensures { result ≡ length (digits n) }

@@ -28,8 +28,8 @@ pub fn gains(records: &[Record], stop: usize, i: usize) -> usize
     ensures { result ≡ length (entries records.now (before stop (path records.now i))) }
 {
     path(records, i)
-        .take_while(|j| *j != stop)
-        .filter(|j| is_entry(at(records, *j)))
+        .take_while(|&j| j != stop)
+        .filter(|&j| is_entry(at(records, j)))
         .count()
 }
 

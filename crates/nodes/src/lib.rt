@@ -68,7 +68,7 @@ pub fn next(members: u16, new: u16) -> bool
     one_step(members, new)
 }
 
-// The clocks after every voter's became the time.
+// The clocks after every voter's became the time. One array by value: document 01's list of forms names it.
 #[tactic(auto, using(rules::proofs::Clocks::moved_all))]
 pub fn moved(voters: u16, time: u32, clocks: [u32; 16]) -> [u32; 16]
     ensures { result ≡ moved voters time clocks }

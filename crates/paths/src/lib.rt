@@ -1,4 +1,4 @@
-// Walks up a path, from a record by parents to record 0. No walk meets more records than there are, so none goes on for ever.
+// Walks up a path, from a record by parents to record 0. A path has at most as many records as there are, so no walk goes on for ever.
 #![tactic(auto)]
 
 ghost use Rattle.std.specs.Prelude.{◌≡◌};
@@ -35,7 +35,7 @@ impl<'a> Iterator for Walk<'a> {
     }
 }
 
-// At most `steps` records from record i by parents to record 0, both included.
+// At most `steps` records from record i by parents to record 0, both included: for any number of steps, what a search along it finds.
 pub fn path_of(records: &[Record], steps: usize, i: usize) -> Walk<'_>
     ensures { onward result ≡ path_of records.now steps i }
 {
@@ -62,6 +62,7 @@ pub fn on_path(records: &[Record], a: usize, i: usize) -> bool
 }
 
 // Has the path of record i an open change? The search leaves the path at the first commit or change it meets.
+// A loop broken with its value: document 01's list of forms names it.
 #[tactic(auto, unfolding(rules::specs::Tree::open_change))]
 pub fn open_change(records: &[Record], i: usize) -> bool
     ensures { result ≡ open_change records.now i }

@@ -15,7 +15,8 @@ mod tested; // tested.rt: a state that passed the test
 
 use rules::{Answer, Record, Refusal};
 
-// Clocks, records and log. `count` and `length` say how many places of the last two are in use.
+// Clocks, records and log. `count` and `length` say how many places of the last two are in use: document 01's list of forms has the
+// table by value, with 256 places for each.
 #[derive(Clone, Copy)]
 pub struct Table {
     pub clocks: [u32; 16],
@@ -47,20 +48,12 @@ impl Table {
     fn answered(self, done: Result<Done, Refusal>) -> Outcome
         ensures { result ≡ outcome self done }
     {
-        match done {
-            Ok((state, Some(n))) => Outcome {
-                state,
-                answer: Answer::Accepted(n),
-            },
-            Ok((state, None)) => Outcome {
-                state,
-                answer: Answer::Short,
-            },
-            Err(refusal) => Outcome {
-                state: self,
-                answer: Answer::Refused(refusal),
-            },
-        }
+        let (state, answer) = match done {
+            Ok((after, Some(n))) => (after, Answer::Accepted(n)),
+            Ok((after, None)) => (after, Answer::Short),
+            Err(refusal) => (self, Answer::Refused(refusal)),
+        };
+        Outcome { state, answer }
     }
 
     // The state after every voter's clock became the time.

@@ -16,7 +16,7 @@ impl Table {
         self.answered(self.pulled(caller, voters, time))
     }
 
-    // Refusals 16, 2, 3 and 5, and the base.
+    // Refusals 16, 2, 3 and 5, and the base, which falls back to record 0. Its number is below 256, which is proved at the cast.
     #[tactic(auto, using(rules::proofs::Searches::base_small), unfolding(rules::specs::Proposals::pull, rules::specs::Proposals::pull_on, crate::specs::Rest::elected_on))]
     fn pulled(&self, caller: u32, voters: u16, time: u32) -> Result<Done, Refusal>
         ensures { seen (outcome self.now result) ≡ pull (view self.now) caller voters time }

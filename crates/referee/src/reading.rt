@@ -1,10 +1,18 @@
 // Reading: the log's length, one entry, one record, one clock, and the log copied to a lent buffer. The state stays with the caller.
-ghost use Rattle.std.specs.Prelude.{◌≡◌};
+ghost use Rattle.std.specs.Prelude.{◌≡◌, slice_get, ok_or};
+ghost use Rattle.rules.specs.declared.Refusal.TheVariants.{NoSuchNumber};
 ghost use Rattle.rules.specs.Reading.{read_length, read_entry, read_record, read_clock, copy_log};
 ghost use Rattle.referee.specs.View.{view, copied};
 
 use super::Table;
 use rules::{Record, Refusal};
+
+// What has a number in a list, counted from 0; 14 where nothing has it.
+fn numbered<T: Copy>(list: &[T], i: u32) -> Result<T, Refusal>
+    ensures { result ≡ ok_or (slice_get list.now i) NoSuchNumber }
+{
+    list.get(i as usize).copied().ok_or(Refusal::NoSuchNumber)
+}
 
 impl Table {
     // How many entries has the log?
@@ -20,8 +28,7 @@ impl Table {
     pub fn log_entry(self, i: u32) -> Result<u32, Refusal>
         ensures { result ≡ read_entry (view self) i }
     {
-        let log = self.tested()?.log;
-        log.get(i as usize).copied().ok_or(Refusal::NoSuchNumber)
+        numbered(self.tested()?.log, i)
     }
 
     // What is record i?
@@ -29,11 +36,7 @@ impl Table {
     pub fn record(self, i: u32) -> Result<Record, Refusal>
         ensures { result ≡ read_record (view self) i }
     {
-        let records = self.tested()?.records;
-        records
-            .get(i as usize)
-            .copied()
-            .ok_or(Refusal::NoSuchNumber)
+        numbered(self.tested()?.records, i)
     }
 
     // What does the clock of a node say?
@@ -41,11 +44,7 @@ impl Table {
     pub fn clock(self, node: u32) -> Result<u32, Refusal>
         ensures { result ≡ read_clock (view self) node }
     {
-        let clocks = self.tested()?.clocks;
-        clocks
-            .get(node as usize)
-            .copied()
-            .ok_or(Refusal::NoSuchNumber)
+        numbered(&self.tested()?.clocks, node)
     }
 
     // Copies the log to the buffer's first places and answers its length. Further places keep what they had; refused, all do.

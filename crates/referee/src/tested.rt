@@ -66,7 +66,7 @@ impl<'a> Tested<'a> {
         self.clocks.get(usize::from(node)).copied().unwrap_or(0)
     }
 
-    // The head of a node, with its number; 6 where the node doesn't lead.
+    // The head of a node, with its number, which is proved to be below 256; 6 where the node doesn't lead.
     #[tactic(auto, using(crate::proofs::Heads::leads_none, crate::proofs::Heads::leads_by, rules::proofs::Searches::called_small))]
     pub(super) fn head(self, caller: u8) -> Result<(u8, Record), Refusal>
         ensures { result ≡ head_of (tested self.entry) caller }

@@ -17,7 +17,7 @@ pub fn number_of(found: Option<(usize, Record)>) -> usize
     found.map_or(0, |(i, _)| i)
 }
 
-// The latest record held by any voter.
+// The latest record held by any voter. Labelled nested loops: document 01's list of forms names them.
 #[tactic(auto, using(rules::proofs::Held::held_by_one, rules::proofs::Held::held_by_none), unfolding(rules::specs::Tree::base, rules::specs::Tree::latest))]
 pub fn base(records: &[Record], voters: u16) -> Option<(usize, Record)>
     ensures { result ≡ base records.now voters }

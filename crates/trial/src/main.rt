@@ -20,21 +20,10 @@ fn refused(out: Stdout, tried: &str, refusal: Refusal) -> io::Result<()> {
     println!(out; "{tried}: X {n}")
 }
 
-// A reading: its number, or its refusal.
-fn tell(out: Stdout, tried: &str, reading: Result<u32, Refusal>) -> io::Result<()> {
+// A reading: what the number is, as "time ", and the number; or its refusal.
+fn tell(out: Stdout, tried: &str, what: &str, reading: Result<u32, Refusal>) -> io::Result<()> {
     match reading {
-        Ok(n) => println!(out; "{tried}: {n}"),
-        Err(refusal) => refused(out, tried, refusal),
-    }
-}
-
-// One record: its time, or the refusal.
-fn tell_record(out: Stdout, tried: &str, reading: Result<Record, Refusal>) -> io::Result<()> {
-    match reading {
-        Ok(r) => {
-            let time = r.time;
-            println!(out; "{tried}: time {time}")
-        }
+        Ok(n) => println!(out; "{tried}: {what}{n}"),
         Err(refusal) => refused(out, tried, refusal),
     }
 }
@@ -51,8 +40,8 @@ fn at_first(out: Stdout) -> io::Result<()> {
     show(out, "pull with a stranger", t.pull(0, 9, 1))?;
     show(out, "pull with one of three", t.pull(0, 1, 1))?;
     show(out, "invoke by no leader", t.invoke(0, 500))?;
-    tell_record(out, "record 0", t.record(0))?;
-    tell_record(out, "record 1 of one", t.record(1))
+    tell(out, "record 0", "time ", t.record(0).map(|r| r.time))?;
+    tell(out, "record 1 of one", "time ", t.record(1).map(|r| r.time))
 }
 
 // A leader before its first commit.
@@ -81,19 +70,19 @@ fn committed(out: Stdout, t: Table) -> io::Result<()> {
     show(out, "change by one node", changed)?;
     let open = changed.state;
     show(out, "a second change", open.reconfigure(0, 31))?;
-    tell(out, "length of the log", after.log_length())?;
-    tell(out, "entry 0 of the log", after.log_entry(0))?;
-    tell(out, "entry 1 of one", after.log_entry(1))?;
-    tell(out, "clock of node 1", after.clock(1))?;
-    tell(out, "clock of node 16", after.clock(16))
+    tell(out, "length of the log", "", after.log_length())?;
+    tell(out, "entry 0 of the log", "", after.log_entry(0))?;
+    tell(out, "entry 1 of one", "", after.log_entry(1))?;
+    tell(out, "clock of node 1", "", after.clock(1))?;
+    tell(out, "clock of node 16", "", after.clock(16))
 }
 
 // The log copied to a lent buffer: further places keep what they had.
 fn copied(out: Stdout, t: Table) -> io::Result<()> {
     let mut none = [0u32; 0];
-    tell(out, "log copied to no place", t.copy_log(&mut none))?;
+    tell(out, "log copied to no place", "", t.copy_log(&mut none))?;
     let mut two = [9u32; 2];
-    tell(out, "log copied to two places", t.copy_log(&mut two))?;
+    tell(out, "log copied to two places", "", t.copy_log(&mut two))?;
     let [first, second] = two;
     println!(out; "the first then holds {first}")?;
     println!(out; "the second still holds {second}")
@@ -160,7 +149,7 @@ fn damaged(out: Stdout, t: Table) -> io::Result<()> {
     show(out, "300 entries", hand.pull(0, 3, 1))?;
     hand.length = 1;
     show(out, "an entry too many", hand.pull(0, 3, 1))?;
-    tell(out, "reading it", hand.log_length())?;
+    tell(out, "reading it", "", hand.log_length())?;
     hand.length = 0;
     hand.records[1] = record(2, 0, 1, 0, Kind::Election { voters: 3 });
     hand.records[2] = record(1, 0, 1, 0, Kind::Election { voters: 3 });
