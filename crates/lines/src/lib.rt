@@ -30,13 +30,20 @@ fn open_with(rest: &[u8]) -> Option<Line>
     Some(Line::Open(u16::try_from(set).ok()?))
 }
 
-// `P caller set time`.
+// The three numbers of `P` and `C`: the one in the middle is a set.
 #[tactic(auto, using(crate::proofs::Parts::three_set))]
+fn with_set(rest: &[u8]) -> Option<(u32, u16, u32)>
+    ensures { result ≡ three largest largest_set largest (words rest.now) }
+{
+    let (first, set, last) = read::triple(rest)?;
+    Some((first, u16::try_from(set).ok()?, last))
+}
+
+// `P caller set time`.
 fn pull(rest: &[u8]) -> Option<Line>
     ensures { result ≡ pull_of (three largest largest_set largest (words rest.now)) }
 {
-    let (caller, set, time) = read::triple(rest)?;
-    let voters = u16::try_from(set).ok()?;
+    let (caller, voters, time) = with_set(rest)?;
     Some(Line::Propose(Proposal::Pull {
         caller,
         voters,
@@ -63,12 +70,10 @@ fn reconfigure(rest: &[u8]) -> Option<Line>
 }
 
 // `C caller set target`.
-#[tactic(auto, using(crate::proofs::Parts::three_set))]
 fn push(rest: &[u8]) -> Option<Line>
     ensures { result ≡ push_of (three largest largest_set largest (words rest.now)) }
 {
-    let (caller, set, target) = read::triple(rest)?;
-    let voters = u16::try_from(set).ok()?;
+    let (caller, voters, target) = with_set(rest)?;
     Some(Line::Propose(Proposal::Push {
         caller,
         voters,

@@ -1,9 +1,8 @@
 -- What a struct shows after a vote and after an addition.
-use Prim.Native.Nat.{ℕ, ◌≤◌, ◌<◌}
+use Prim.Native.Nat.{ℕ, ◌≤◌}
 use native.Mathlib.Omega.{arith}
 use mathlib.Core.Path.{◌≡◌, refl, sym, ap, ◌∙◌}
-use mathlib.Core.Bool.{Bool, true, false, cond, ◌&&◌}
-use mathlib.Core.List.{[]}
+use mathlib.Core.Bool.{Bool, true, false, cond}
 use borrow.Author.Tests.{ltb-true, ltb-false, le-leb, lt-leb}
 use lib.Dec.{ltb, leb}
 use lib.ListN.{length, take}
@@ -11,9 +10,8 @@ use lib.Seq.{length-take-le}
 use Rattle.std.specs.Prelude.{◌+◌, Some, Ok, Err, set}
 use Rattle.rules.specs.declared.Record.{Record}
 use Rattle.rules.specs.declared.Refusal.TheVariants.{TableFull}
-use Rattle.rules.specs.State.{State, places, full, is_table, counted}
+use Rattle.rules.specs.State.{State, places, full, is_table}
 use Rattle.rules.specs.Proposals.{Result, refused_in, added, voted}
-use Rattle.records.specs.Used.{shown}
 use Rattle.referee.specs.declared.Table.{Table}
 use Rattle.referee.specs.View.{view, seen, outcome, revoted, placed}
 use Rattle.referee.proofs.Views.{shown_is, few, short, shown_voted, shown_added}
@@ -22,19 +20,6 @@ use Rattle.referee.proofs.Views.{shown_is, few, short, shown_voted, shown_added}
 pub view_is : (t : Table) → t.count ≤ 256 → t.length ≤ 256
     → view t ≡ record { clocks = t.clocks; records = take t.count t.records; log = take t.length t.log }
 view_is t few short = shown_is t.clocks t.records t.count t.log t.length few short
-
--- one whose numbers are out of range is no table
-pub too_many : (t : Table) → 256 < t.count → is_table (view t) ≡ false
-unfolding shown is_table counted
-too_many t l = rw (lt-leb t.count 256 l)
-
-pub too_long : (t : Table) → 256 < t.length → is_table (view t) ≡ false
-unfolding shown is_table counted
-too_long t l = rw (lt-leb t.length 256 l) (go (leb t.count 256))
-  where
-    go : (b : Bool) → is_table (cond (b && false) (record { clocks = t.clocks; records = take t.count t.records; log = take t.length t.log }) (record { clocks = t.clocks; records = []; log = [] })) ≡ false
-    go true = refl
-    go false = refl
 
 -- a vote moves the clocks and nothing else
 pub view_voted : (voters time : ℕ) (t : Table) → view (revoted voters time t) ≡ voted (view t) voters time

@@ -1,5 +1,5 @@
 -- What is left of a proposal once the first lines of its order are not given. Each is a tail of the order in rules.
-use Rattle.std.specs.Prelude.{ℕ, Bool, cond, not, ◌&&◌, [], ◌∷◌, Result as Fallible, Ok, Err, ltb, eqb}
+use Rattle.std.specs.Prelude.{ℕ, cond, not, ◌&&◌, [], ◌∷◌, Result as Fallible, Ok, Err, ltb, eqb}
 use Rattle.rules.specs.declared.Kind.{Kind}
 use Rattle.rules.specs.declared.Kind.TheVariants.{Change}
 use Rattle.rules.specs.declared.Record.{Record}

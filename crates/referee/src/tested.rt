@@ -36,7 +36,7 @@ pub(super) fn node(caller: u32) -> Result<u8, Refusal>
 
 impl Table {
     // The state as a table; 16 where it is none.
-    #[tactic(auto, using(crate::proofs::Structs::too_many, crate::proofs::Structs::too_long, crate::proofs::Structs::view_is))]
+    #[tactic(auto, using(tables::proofs::Tested::too_many, tables::proofs::Tested::too_long, crate::proofs::Structs::view_is))]
     pub(super) fn tested(&self) -> Result<Tested<'_>, Refusal>
         ensures { MatchResult result (λ w. w.table.now ≡ self.now) (Fails (view self.now)) }
     {

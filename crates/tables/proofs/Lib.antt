@@ -3,4 +3,4 @@ mod Clauses
 mod Compared
 mod Matching
 mod Branch
-mod Tested
+pub mod Tested
