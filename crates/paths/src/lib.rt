@@ -10,7 +10,7 @@ use records::{at, is_change, is_commit};
 use rules::Record;
 
 // A walk up a path: how many records it may still meet, and the number of the next.
-#[derive(Clone, Copy)]
+#[derive(Drop)]
 pub struct Walk<'a> {
     records: &'a [Record],
     steps: usize,

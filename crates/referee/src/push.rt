@@ -43,7 +43,7 @@ impl Table {
         after
     }
 
-    // The state after every child of the target became a child of a new record.
+    // The state after every child of the target became a child of a new record. Of `[..n]` the proof knows nothing afterwards, of `[0..n]` it does.
     #[tactic(auto, using(records::proofs::Places::used_small))]
     fn adopted(self, target: u8, new: u8) -> Table
         ensures { result ≡ regrouped target new self }
