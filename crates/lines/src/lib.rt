@@ -30,7 +30,7 @@ fn open_with(rest: &[u8]) -> Option<Line>
     Some(Line::Open(u16::try_from(set).ok()?))
 }
 
-// The three numbers of `P` and `C`: the one in the middle is a set.
+// The three numbers of `P` and `C`: the one in the middle is a set. Each of the two makes its own proposal of them.
 #[tactic(auto, using(crate::proofs::Parts::three_set))]
 fn with_set(rest: &[u8]) -> Option<(u32, u16, u32)>
     ensures { result ≡ three largest largest_set largest (words rest.now) }
@@ -111,7 +111,7 @@ pub fn parse(line: &[u8]) -> Option<Line>
     }
 }
 
-// Document 01's number of a refusal.
+// Document 01's number of a refusal, which stands at its name.
 pub fn number(refusal: Refusal) -> u32
     ensures { result ≡ numbered refusal }
 {

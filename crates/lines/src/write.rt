@@ -34,6 +34,7 @@ pub fn fits(numbers: &[u32], room: usize) -> bool
 }
 
 // A number with the space before it, at a place of the buffer, from its last digit on. Answers the place after it.
+// The loop divides; each digit is proved to fit in a byte.
 #[tactic(auto, using(crate::proofs::Laid::put_none, crate::proofs::Laid::put_whole, crate::proofs::Digits::digits_longer, crate::proofs::Laid::first_laid))]
 pub fn put_number(n: u64, at: usize, out: &mut [u8]) -> usize
     ensures { outcome out.new result ≡ put (spaced n) at out.old }

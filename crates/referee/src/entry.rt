@@ -48,6 +48,7 @@ impl Table {
     }
 }
 
+// A record and its number come as two arguments, as the definitions of `Rest` take them.
 impl Tested<'_> {
     // The rest of a reconfigure, under head h, whose number is i: refusals 3, 9, 10 and 11, and the growth.
     #[tactic(auto, unfolding(crate::specs::Rest::changed_on))]

@@ -7,7 +7,7 @@ ghost use Rattle.referee.specs.View.{view, copied};
 use super::Table;
 use rules::{Record, Refusal};
 
-// What has a number in a list, counted from 0; 14 where nothing has it.
+// What has a number in a list, counted from 0; 14 where nothing has it. There is no From of a u32 to a usize.
 fn numbered<T: Copy>(list: &[T], i: u32) -> Result<T, Refusal>
     ensures { result ≡ ok_or (slice_get list.now i) NoSuchNumber }
 {
@@ -15,7 +15,7 @@ fn numbered<T: Copy>(list: &[T], i: u32) -> Result<T, Refusal>
 }
 
 impl Table {
-    // How many entries has the log?
+    // How many entries has the log? At most 256, so the cast is proved to fit; likewise in `copy_log`.
     #[tactic(auto, unfolding(rules::specs::Reading::read_length))]
     pub fn log_length(self) -> Result<u32, Refusal>
         ensures { result ≡ read_length (view self) }

@@ -24,7 +24,7 @@ pub(super) struct Tested<'a> {
     ghost entries: { log.now ≡ (view table.now).log },
 }
 
-// The node that a caller's number stands for; 2 where it is over 15.
+// The node that a caller's number stands for; 2 where it is over 15. After the test the cast is proved to fit.
 pub(super) fn node(caller: u32) -> Result<u8, Refusal>
     ensures { result ≡ node_of caller }
 {

@@ -10,7 +10,7 @@ ghost use Rattle.searches.specs.Tests.{Answers};
 use records::{called, holds, is_commit, later};
 use rules::Record;
 
-// The number of what was found; 0 where nothing was.
+// The number of what was found; 0 where nothing was, as the definition has it.
 pub fn number_of(found: Option<(usize, Record)>) -> usize
     ensures { result ≡ number_of found }
 {

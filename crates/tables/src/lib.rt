@@ -11,7 +11,7 @@ use records::{above, at, called, holds, is_commit, is_entry};
 use rules::{Kind, Record};
 use searches::{last_commit, number_of};
 
-// Is the record as opening with its own non-empty member set makes it?
+// Is the record as opening with its own non-empty member set makes it? `==` with such a record would name the same fields.
 #[tactic(auto, unfolding(rules::specs::State::is_opening, rules::specs::Nodes::empty))]
 fn is_opening(r: Record) -> bool
     ensures { result ≡ is_opening r }
@@ -88,6 +88,7 @@ fn commits_along(records: &[Record], i: usize) -> usize
 }
 
 // Is the log the commands and changes on the path of record i, oldest first? It is read backwards on the way up.
+// There is no From of a u32 to a usize.
 fn log_along(log: &[u32], records: &[Record], i: usize) -> bool
     ensures { result ≡ same log.now (reverse (entries records.now (path records.now i))) }
 {
