@@ -5,8 +5,9 @@ use native.Mathlib.Nat.{add-zero, zero-add, add-suc}
 use native.Mathlib.Omega.{arith}
 use mathlib.Core.Path.{◌≡◌, refl, sym, ap, ap₂, ◌∙◌}
 use mathlib.Core.List.{List, [], ◌∷◌, ◌++◌, map, reverse, append-nil, append_assoc, reverse-cons}
-use lib.ListN.{length, take, get_or, set, length-set}
-use lib.Seq.{take_all, get_or-set_same, get_or-set_other, take-suc, take-suc-set, take-set-le}
+use lib.ListN.{length, take, drop, get_or, set, length-set, length-reverse}
+use lib.Seq.{take_all, get_or-set_same, get_or-set_other, take-suc, take-suc-set, take-set-le, drop-drop}
+use Rattle.std.proofs.lemmas.List.{take-append-drop, drop-set-lt}
 use Rattle.rules.specs.declared.Record.{Record}
 use Rattle.rules.specs.Records.{blank, at}
 use Rattle.rules.specs.Proposals.{adopted}
@@ -66,6 +67,21 @@ written_shown (i ∷ xs) log l h =
     (written_rest xs after end end (omega arith) ∙ get_or-set_same log end i 0 (omega arith))
     ∙ append_assoc (take l log) (reverse xs) (i ∷ [])
     ∙ ap (λ (p : List ℕ). take l log ++ p) (sym (reverse-cons i xs)))
+
+written_onward : (xs log : List ℕ) (end k : ℕ) → end ≤ k → drop k (written log end xs) ≡ drop k log
+written_onward [] log end k l = refl
+written_onward (i ∷ xs) log zero k l = refl
+written_onward (i ∷ xs) log (suc end) k l = written_onward xs (set log end i) end k (omega arith) ∙ drop-set-lt k log end i (omega arith)
+
+-- the whole log then: what it had, the numbers, and the places after them as they were
+pub written_between : (xs log : List ℕ) (l : ℕ) → l + length xs ≤ length log
+    → written log (l + length xs) xs ≡ take l log ++ (reverse xs ++ drop (length (reverse xs)) (drop l log))
+written_between xs log l h =
+    let end = l + length xs in
+    sym (take-append-drop end (written log end xs))
+    ∙ ap₂ (λ (p : List ℕ) (q : List ℕ). p ++ q) (written_shown xs log l h) (written_onward xs log end end (omega arith))
+    ∙ append_assoc (take l log) (reverse xs) (drop end log)
+    ∙ ap (λ (q : List ℕ). take l log ++ (reverse xs ++ q)) (sym (drop-drop (length xs) l log) ∙ ap (λ (k : ℕ). drop k (drop l log)) (sym (length-reverse xs)))
 
 -- and a log with as many places as there are numbers is these numbers
 pub written_all : (xs log : List ℕ) → length log ≡ length xs → written log (length log) xs ≡ reverse xs

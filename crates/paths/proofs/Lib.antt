@@ -1,3 +1,4 @@
--- What each search says of a path, and that a walk in the whole array is a walk among the records in use.
+-- What each search says of a path, that a walk of enough steps is a path, and that a walk in the whole array is a walk among the records in use.
 pub mod Searches
 pub mod Shown
+pub mod Whole

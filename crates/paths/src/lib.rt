@@ -1,9 +1,10 @@
-// Walks up a path, from a record by parents to record 0. A path has at most as many records as there are, so no walk goes on for ever.
+// Walks up a path, from a record by parents to record 0. A walk meets at most `steps` records, so none goes on for ever; with as many steps
+// as there are records it is the record's path.
 #![tactic(auto)]
 
 ghost use Rattle.std.specs.Prelude.{◌≡◌};
 ghost use Rattle.std.specs.Iterator.{YieldsFirst, item_count};
-ghost use Rattle.rules.specs.Tree.{path_of, path, on_path, open_change, commit_of_time};
+ghost use Rattle.rules.specs.Tree.{path_of, path, among, open_along, commit_along};
 ghost use Rattle.paths.specs.Onward.{onward};
 
 use records::{at, is_change, is_commit};
@@ -54,20 +55,19 @@ pub fn path(records: &[Record], i: usize) -> Walk<'_>
     path_of(records, records.len(), i)
 }
 
-// Is record a on the path of record i?
-pub fn on_path(records: &[Record], a: usize, i: usize) -> bool
-    ensures { result ≡ on_path records.now a i }
+// Is record a among the first `steps` records of the path of record i?
+pub fn on_path(records: &[Record], steps: usize, a: usize, i: usize) -> bool
+    ensures { result ≡ among a (path_of records.now steps i) }
 {
-    path(records, i).any(|j| a == j)
+    path_of(records, steps, i).any(|j| a == j)
 }
 
-// Has the path of record i an open change? The search leaves the path at the first commit or change it meets.
+// Have these records an open change? The search leaves the path at the first commit or change it meets.
 // A loop broken with its value: document 01's list of forms names it.
-#[tactic(auto, unfolding(rules::specs::Tree::open_change))]
-pub fn open_change(records: &[Record], i: usize) -> bool
-    ensures { result ≡ open_change records.now i }
+pub fn open_change(records: &[Record], steps: usize, i: usize) -> bool
+    ensures { result ≡ open_along records.now (path_of records.now steps i) }
 {
-    let mut up = path(records, i);
+    let mut up = path_of(records, steps, i);
     let open = loop {
         let Some(j) = up.next() else {
             break false;
@@ -83,11 +83,11 @@ pub fn open_change(records: &[Record], i: usize) -> bool
     open
 }
 
-// Has the path of record i a commit of this time?
-pub fn commit_of_time(records: &[Record], time: u32, i: usize) -> bool
-    ensures { result ≡ commit_of_time records.now time i }
+// Have these records a commit of this time?
+pub fn commit_of_time(records: &[Record], steps: usize, time: u32, i: usize) -> bool
+    ensures { result ≡ commit_along records.now time (path_of records.now steps i) }
 {
-    path(records, i)
+    path_of(records, steps, i)
         .map(|j| at(records, j))
         .any(|r| is_commit(r) && r.time == time)
 }

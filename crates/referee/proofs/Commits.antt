@@ -17,7 +17,9 @@ use Rattle.rules.specs.Proposals.{Result, refused_in, voted, added, adopted, bef
 use Rattle.rules.proofs.State.{Table, table_says}
 use Rattle.rules.proofs.Paths.{rising}
 use Rattle.records.specs.Used.{used}
+use Rattle.moves.specs.Moves.{written}
 use Rattle.moves.proofs.Gained.{gain_few}
+use Rattle.moves.proofs.Shown.{written_between}
 use Rattle.referee.specs.declared.Table as Struct
 use Rattle.referee.specs.Rest.{committed_on}
 use Rattle.referee.specs.View.{view, seen, outcome, placed, revoted, extended, regrouped}
@@ -27,6 +29,15 @@ use Rattle.referee.proofs.Structs.{view_is, seen_placed}
 -- as many from the front as the first part has is the first part
 take_front : {A : Type 0} (n : ℕ) (xs ys : List A) → length xs ≡ n → take n (xs ++ ys) ≡ xs
 take_front n xs ys e = ap (λ (k : ℕ). take k (xs ++ ys)) (sym e) ∙ take-append_seam xs ys
+
+-- a struct whose log was written up to a new end
+pub extended_by : (t : Struct.Table) (xs after : List ℕ) (end : ℕ) → t.length + length xs ≤ length t.log → end ≡ t.length + length xs → after ≡ written t.log end xs
+    → record { clocks = t.clocks; records = t.records; count = t.count; log = after; length = end } ≡ extended (reverse xs) t
+extended_by t xs after end l e w =
+    let in_log : after ≡ take t.length t.log ++ (reverse xs ++ drop (length (reverse xs)) (drop t.length t.log)) =
+    w ∙ ap (λ (k : ℕ). written t.log k xs) e ∙ written_between xs t.log t.length l in
+    let to : end ≡ t.length + length (reverse xs) = e ∙ ap (λ (k : ℕ). t.length + k) (sym (length-reverse xs)) in
+    λ i. record { clocks = t.clocks; records = t.records; count = t.count; log = in_log i; length = to i }
 
 module _ (t : Struct.Table) (table : is_table (view t) ≡ true) (whole : length t.records ≡ 256) (pages : length t.log ≡ 256)
     (target : ℕ) (there : target < length (view t).records)

@@ -51,7 +51,7 @@ impl Table {
 // A record and its number come as two arguments, as the definitions of `Rest` take them.
 impl Tested<'_> {
     // The rest of a reconfigure, under head h, whose number is i: refusals 3, 9, 10 and 11, and the growth.
-    #[tactic(auto, unfolding(crate::specs::Rest::changed_on))]
+    #[tactic(auto, using(paths::proofs::Whole::open_whole, paths::proofs::Whole::commit_whole), unfolding(crate::specs::Rest::changed_on))]
     fn change(self, i: u8, h: Record, caller: u8, new: u16) -> Result<Done, Refusal>
         ensures { seen (outcome self.entry.table.now result) ≡ changed_on (tested self.entry) i h caller new }
     {
@@ -61,10 +61,10 @@ impl Tested<'_> {
         if !nodes::next(h.members, new) {
             return Err(Refusal::NotNext);
         }
-        if paths::open_change(self.records, usize::from(i)) {
+        if paths::open_change(self.records, self.records.len(), usize::from(i)) {
             return Err(Refusal::OpenChange);
         }
-        if !paths::commit_of_time(self.records, h.time, usize::from(i)) {
+        if !paths::commit_of_time(self.records, self.records.len(), h.time, usize::from(i)) {
             return Err(Refusal::NoCommitYet);
         }
         self.grow(i, h, caller, new, Kind::Change)

@@ -31,14 +31,15 @@ impl Table {
     }
 
     // The state after the log gained the commands and changes on the path from record `last` down to the target.
-    #[tactic(auto, using(moves::proofs::Shown::written_all))]
+    #[tactic(auto, using(crate::proofs::Commits::extended_by), unfolding(rules::specs::Tree::path))]
     fn gained(self, records: &[Record], last: usize, target: u8) -> Table
         requires fits { self.length + length (entries records.now (before last (path records.now target))) ≤ 256 }
         ensures { result ≡ extended (reverse (entries records.now (before last (path records.now target)))) self }
     {
-        let end = self.length + moves::gains(records, last, usize::from(target));
+        let steps = records.len();
+        let end = self.length + moves::gains(records, steps, last, usize::from(target));
         let mut after = self;
-        moves::write_gained(&mut after.log[self.length..end], records, last, target);
+        moves::write_gained(&mut after.log, end, records, steps, last, target);
         after.length = end;
         after
     }
@@ -99,13 +100,13 @@ impl Tested<'_> {
     }
 
     // A push that a majority votes for: refusals 17 and 12, and the commit.
-    #[tactic(auto, using(crate::proofs::Commits::gain_fits, crate::proofs::Commits::moved_seen), unfolding(crate::specs::Rest::committed_on, rules::specs::Tree::latest_commit, rules::specs::State::full, rules::specs::State::places))]
+    #[tactic(auto, using(paths::proofs::Whole::among_whole, crate::proofs::Commits::gain_fits, crate::proofs::Commits::moved_seen), unfolding(crate::specs::Rest::committed_on, rules::specs::Tree::latest_commit, rules::specs::State::full, rules::specs::State::places))]
     fn commit(self, t: Record, caller: u8, voters: u16, target: u8) -> Result<Done, Refusal>
         requires target_known { target < length self.records.now }
         ensures { seen (outcome self.entry.table.now result) ≡ committed_on (tested self.entry) t caller voters target }
     {
         let last = searches::number_of(searches::last_commit(self.records));
-        if !paths::on_path(self.records, last, usize::from(target)) {
+        if !paths::on_path(self.records, self.records.len(), last, usize::from(target)) {
             return Err(Refusal::OffBranch);
         }
         let n = u8::try_from(self.records.len()).map_err(|_| Refusal::TableFull)?;

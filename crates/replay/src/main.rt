@@ -96,11 +96,15 @@ impl Session {
         }
     }
 
-    // The end of the input: a line without its newline counts, and the log is printed.
+    // The end of the input: a line without its newline counts.
     fn finish(&mut self, out: &mut Output) {
         if self.length > 0 {
             self.answer(out);
         }
+    }
+
+    // The present table's log, the last line of the output.
+    fn put_log(&mut self, out: &mut Output) {
         let Some(table) = self.table else {
             out.put_log(&[]);
             return;
@@ -155,5 +159,8 @@ fn main(rt: HostRuntime) {
         }
     }
     session.finish(&mut out);
+    // The log is written even where the answer before it could not be.
+    let _ = out.write(rt.stdout());
+    session.put_log(&mut out);
     let _ = out.write(rt.stdout());
 }

@@ -66,7 +66,7 @@ entries_filter records [] = refl
 entries_filter records (i ∷ up) = ap (λ (l : List ℕ). cond (is_entry (at records i)) (i ∷ l) l) (entries_filter records up)
 
 -- a path has no more records than steps
-steps_few : (records : List Record) (steps i : ℕ) → length (path_of records steps i) ≤ steps
+pub steps_few : (records : List Record) (steps i : ℕ) → length (path_of records steps i) ≤ steps
 steps_few records zero i = omega arith
 steps_few records (suc steps) zero = omega arith
 steps_few records (suc steps) (suc i) = omega (arith, steps_few records steps (at records (suc i)).parent)

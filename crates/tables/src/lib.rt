@@ -102,11 +102,13 @@ fn log_along(log: &[u32], records: &[Record], i: usize) -> bool
 pub fn is_table(clocks: [u32; 16], records: &[Record], log: &[u32]) -> bool
     ensures { result ≡ is_table (record { clocks = clocks; records = records.now; log = log.now }) }
 {
+    if !(1..=256).contains(&records.len())
+        || !is_opening(at(records, 0))
+        || !all_shaped(records)
+        || !all_timely(clocks, records)
+    {
+        return false;
+    }
     let last = number_of(last_commit(records));
-    (1..=256).contains(&records.len())
-        && is_opening(at(records, 0))
-        && all_shaped(records)
-        && all_timely(clocks, records)
-        && commits_along(records, last) == commits_in(records)
-        && log_along(log, records, last)
+    commits_along(records, last) == commits_in(records) && log_along(log, records, last)
 }
