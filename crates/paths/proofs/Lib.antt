@@ -2,3 +2,4 @@
 pub mod Searches
 pub mod Shown
 pub mod Whole
+pub mod Determined

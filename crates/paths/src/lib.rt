@@ -2,7 +2,7 @@
 // as there are records it is the record's path.
 #![tactic(auto)]
 
-ghost use Rattle.std.specs.Prelude.{◌≡◌};
+ghost use Rattle.std.specs.Prelude.{◌≡◌, length};
 ghost use Rattle.std.specs.Iterator.{YieldsFirst, item_count};
 ghost use Rattle.rules.specs.Tree.{path_of, path, among, open_along, commit_along};
 ghost use Rattle.paths.specs.Onward.{onward};
@@ -38,7 +38,8 @@ impl<'a> Iterator for Walk<'a> {
 
 // At most `steps` records from record i by parents to record 0, both included: for any number of steps, what a search along it finds.
 pub fn path_of(records: &[Record], steps: usize, i: usize) -> Walk<'_>
-    ensures { onward result ≡ path_of records.now steps i }
+    ensures meets { onward result ≡ path_of records.now steps i }
+    ensures begins { result ≡ record { records = records.entry; steps = steps; next = i } }
 {
     Walk {
         records,
@@ -50,7 +51,8 @@ pub fn path_of(records: &[Record], steps: usize, i: usize) -> Walk<'_>
 // The path of record i.
 #[tactic(auto, unfolding(rules::specs::Tree::path))]
 pub fn path(records: &[Record], i: usize) -> Walk<'_>
-    ensures { onward result ≡ path records.now i }
+    ensures meets { onward result ≡ path records.now i }
+    ensures begins { result ≡ record { records = records.entry; steps = length records.now; next = i } }
 {
     path_of(records, records.len(), i)
 }

@@ -27,7 +27,7 @@ returns c =
     (YieldsList-from_filter _ _
     (YieldsList-at c.filter.ensures.source
     (YieldsList-from_take_while _ _
-    (YieldsList-at c.take_while.ensures.source (YieldsList-from_first (λ x. x) onward p c.path_of.ensures))
+    (YieldsList-at c.take_while.ensures.source (YieldsList-from_first (λ x. x) onward p c.path_of.ensures.meets))
     c.take_while.ensures.closure
     c.take_while.ensures.done
     (λ x b q k. search (rules, tests))))

@@ -15,7 +15,7 @@ returns c =
     let s = c.args in
     any_from_yields_List (λ r. is_commit r && eqb r.time s.time) c.any.new.self _ _ c.any.ensures.ran
     (YieldsList-from_map _ (λ j. at s.records.now j)
-    (YieldsList-from_first (λ x. x) onward (path_of s.records.now s.steps s.i) (ap onward c.map.ensures.source ∙ c.path_of.ensures))
+    (YieldsList-from_first (λ x. x) onward (path_of s.records.now s.steps s.i) (ap onward c.map.ensures.source ∙ c.path_of.ensures.meets))
     c.map.ensures.closure
     (λ x r q k. search rules))
     (λ x b q k. (search (rules, tests), search (rules, tests)))

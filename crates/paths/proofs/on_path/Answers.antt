@@ -12,6 +12,6 @@ pub returns : goal.returns
 returns c =
     let s = c.args in
     any_from_yields_List (λ j. eqb s.a j) c.any.new.self _ _ c.any.ensures.ran
-    (YieldsList-from_first (λ x. x) onward (path_of s.records.now s.steps s.i) c.path_of.ensures)
+    (YieldsList-from_first (λ x. x) onward (path_of s.records.now s.steps s.i) c.path_of.ensures.meets)
     (λ x b q k. (search (rules, tests), search (rules, tests)))
     ∙ sym (among_any s.a (path_of s.records.now s.steps s.i))

@@ -24,7 +24,7 @@ returns c =
     let s = c.args in
     count_from_yields_List c.filter.result _ c.count.ensures.ran
     (YieldsList-from_filter _ (λ j. is_commit (at s.records.now j))
-    (YieldsList-at c.filter.ensures.source (YieldsList-from_first (λ x. x) onward (path s.records.now s.i) c.path.ensures))
+    (YieldsList-at c.filter.ensures.source (YieldsList-from_first (λ x. x) onward (path s.records.now s.i) c.path.ensures.meets))
     c.filter.ensures.closure
     (λ x b q k. search rules))
     ∙ commits_filter s.records.now (path s.records.now s.i)

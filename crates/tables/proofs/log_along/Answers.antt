@@ -21,7 +21,7 @@ returns c =
     let s = c.args in
     eq_from_yields_List (λ x y. y ≡ x) _ _ c.eq.ensures.ran
     (YieldsList-from_filter _ (λ j. is_entry (at s.records.now j))
-    (YieldsList-at c.filter.ensures.source (YieldsList-from_first (λ x. x) onward (path s.records.now s.i) c.path.ensures))
+    (YieldsList-at c.filter.ensures.source (YieldsList-from_first (λ x. x) onward (path s.records.now s.i) c.path.ensures.meets))
     c.filter.ensures.closure
     (λ x b q k. search rules))
     (λ it e. YieldsList-at e
