@@ -31,7 +31,7 @@ impl Table {
     }
 
     // The state after the log gained the commands and changes on the path from record `last` down to the target.
-    #[tactic(auto, using(crate::proofs::Commits::extended_by), unfolding(rules::specs::Tree::path))]
+    #[tactic(auto, using(paths::proofs::Whole::path_whole, crate::proofs::Commits::extended_by))]
     fn gained(self, records: &[Record], last: usize, target: u8) -> Table
         requires fits { self.length + length (entries records.now (before last (path records.now target))) ≤ 256 }
         ensures { result ≡ extended (reverse (entries records.now (before last (path records.now target)))) self }
