@@ -1,11 +1,12 @@
 -- Reading a numeral, digit by digit.
 use Prim.Native.Nat.{ℕ, suc, ◌+◌, ◌-◌, ◌*◌, ◌≤◌, ◌<◌}
 use native.Mathlib.Nat.{le_trans}
+use native.Mathlib.Numerals.{add-one}
 use native.Mathlib.Omega.{arith}
 use mathlib.Core.Path.{◌≡◌, refl, sym, ◌∙◌}
 use mathlib.Core.Bool.{Bool, true, false, cond}
 use mathlib.Core.List.{List, [], ◌∷◌}
-use borrow.Author.Tests.{le-leb, lt-leb, lt-ltb, le-ltb, eq-eqb, ne_eqb, leb-false}
+use borrow.Author.Tests.{le-leb, lt-leb, lt-ltb, le-ltb, eq-eqb, ne_eqb, leb-true, leb-false}
 use lib.Dec.{leb}
 use lib.ListN.{length, drop, get_or, drop_of_length-le}
 use lib.Seq.{drop-cons}
@@ -28,6 +29,29 @@ read_past most n bytes l = go (digital bytes)
     go : (t : Bool) → cond t (within most (value_on n bytes)) None ≡ None
     go true = rw (lt-leb (value_on n bytes) most (omega (arith, value_on_le n bytes)))
     go false = refl
+
+module _ (most n : ℕ) (bytes : List ℕ) (i : ℕ) where
+  -- one digit more
+  pub read_more : i < length bytes → 48 ≤ get_or bytes i 0 → get_or bytes i 0 ≤ 57
+      → read_on most n (drop i bytes) ≡ read_on most (n * 10 + (get_or bytes i 0 - 48)) (drop (i + 1) bytes)
+  read_more l low high = rw (add-one, drop-cons bytes i 0 l, le-leb 48 (get_or bytes i 0) low, le-leb (get_or bytes i 0) 57 high)
+
+  -- one digit too many
+  pub read_over : i < length bytes → 48 ≤ get_or bytes i 0 → get_or bytes i 0 ≤ 57 → most < n * 10 + (get_or bytes i 0 - 48)
+      → read_on most n (drop i bytes) ≡ None
+  read_over l low high past = read_more l low high ∙ read_past most (n * 10 + (get_or bytes i 0 - 48)) (drop (i + 1) bytes) past
+
+  -- a byte that is no digit
+  pub read_low : i < length bytes → get_or bytes i 0 < 48 → read_on most n (drop i bytes) ≡ None
+  read_low l low = rw (drop-cons bytes i 0 l, lt-leb 48 (get_or bytes i 0) low)
+
+  pub read_high : i < length bytes → 57 < get_or bytes i 0 → read_on most n (drop i bytes) ≡ None
+  read_high l high =
+      rw (drop-cons bytes i 0 l, le-leb 48 (get_or bytes i 0) (omega arith), lt-leb (get_or bytes i 0) 57 high)
+
+  -- the end of the digits
+  pub read_end : length bytes ≤ i → n ≤ most → read_on most n (drop i bytes) ≡ Some n
+  read_end l m = rw (drop_of_length-le bytes l, le-leb n most m)
 
 -- digits are read up to a place, and stand for n
 module _ (most n : ℕ) (bytes : List ℕ) (i : ℕ) (at : read_on most n (drop i bytes) ≡ read_on most 0 bytes) where
@@ -71,6 +95,22 @@ module _ (most : ℕ) (word : List ℕ) where
 
 -- a word by how many bytes it has and what the first is
 pub ruleset by_numeral = (read_none, read_led, read_one, read_many)
+
+-- a number that was read is at most the limit
+within_le : (most n k : ℕ) → within most n ≡ Some k → k ≤ most
+within_le most n k e = go (leb n most) refl e
+  where
+    go : (t : Bool) → leb n most ≡ t → cond t (Some n) None ≡ Some k → k ≤ most
+    go true f g = let h : n ≡ k = cc in omega (arith, leb-true n most f)
+    go false f g = let z : ◌≡◌ {A = ℕ} 0 1 = cc in omega arith
+
+pub read_le : (most : ℕ) (word : List ℕ) (k : ℕ) → read most word ≡ Some k → k ≤ most
+unfolding read
+read_le most word k e = go (is_numeral word) e
+  where
+    go : (t : Bool) → cond t (within most (value word)) None ≡ Some k → k ≤ most
+    go true f = within_le most (value word) k f
+    go false f = let z : ◌≡◌ {A = ℕ} 0 1 = cc in omega arith
 
 -- a set is a number at most 65535
 pub read_set : (word : List ℕ) → read largest_set word ≡ option_and_then (within largest_set) (read largest word)

@@ -11,7 +11,7 @@ use Rattle.lines.specs.Print.{line, spaced, spaced_all, log_line, laid, outcome,
 use Rattle.lines.proofs.Laid.{laid_append, put_whole, put_none, put_buffer, put_next, put_length}
 
 -- a line is its letter, the rest and the newline
-line_put : (letter : ℕ) (rest buffer out : List ℕ) (end : ℕ) → length rest + 2 ≤ length buffer
+pub line_put : (letter : ℕ) (rest buffer out : List ℕ) (end : ℕ) → length rest + 2 ≤ length buffer
     → out ≡ laid 1 rest (set buffer 0 letter) → end ≡ 1 + length rest
     → outcome (set out end 10) (end + 1) ≡ put (line letter rest) 0 buffer
 line_put letter rest buffer out end l e f =
@@ -21,7 +21,7 @@ line_put letter rest buffer out end l e f =
     (omega (arith, length-append rest (10 ∷ [])))
     ∙ sym (put_whole (line letter rest) 0 buffer (omega (arith, length-append rest (10 ∷ []))))
 
-line_none : (letter : ℕ) (rest buffer : List ℕ) → length buffer < length rest + 2 → put (line letter rest) 0 buffer ≡ outcome buffer 0
+pub line_none : (letter : ℕ) (rest buffer : List ℕ) → length buffer < length rest + 2 → put (line letter rest) 0 buffer ≡ outcome buffer 0
 line_none letter rest buffer l = put_none (line letter rest) 0 buffer (omega (arith, length-append rest (10 ∷ [])))
 
 -- a letter and then a number are put
@@ -30,7 +30,7 @@ module _ (letter n : ℕ) (buffer out : List ℕ) (next : ℕ)
   head_fits : 1 + length (spaced n) ≤ length (set buffer 0 letter)
   head_fits = simp length-set (omega arith)
 
-  head_put : (out ≡ laid 1 (spaced n) (set buffer 0 letter)) × (next ≡ 1 + length (spaced n)) × (length out ≡ length buffer)
+  pub head_put : (out ≡ laid 1 (spaced n) (set buffer 0 letter)) × (next ≡ 1 + length (spaced n)) × (length out ≡ length buffer)
   head_put = (
     put_buffer (spaced n) 1 (set buffer 0 letter) out next head_fits q,
     put_next (spaced n) 1 (set buffer 0 letter) out next head_fits q,
@@ -115,6 +115,13 @@ module _ (log buffer middle out : List ℕ) (letter next end : ℕ)
       put_buffer (spaced_all log) next middle out end log_fits q
       ∙ ap₂ (λ (n : ℕ) (l : List ℕ). laid n (spaced_all log) l) head.1 head.0
       ∙ sym (laid_append 1 (spaced (length log)) (spaced_all log) (set buffer 0 letter))
+
+  -- the newline has its place, and the buffer keeps its length
+  pub log_room : (end < length buffer) × (length out ≡ length buffer)
+  log_room = (
+    omega (arith, log_end, length-append (spaced (length log)) (spaced_all log)),
+    put_length (spaced_all log) next middle out end log_fits q ∙ head.2,
+  )
 
   pub log_put : outcome (set out end 10) (end + 1) ≡ put (line letter (spaced_all (length log ∷ log))) 0 buffer
   log_put =

@@ -2,6 +2,7 @@
 use Prim.Native.Nat.{ℕ, zero, suc, ◌+◌, ◌≤◌, ◌<◌}
 use native.Mathlib.Nat.{not-suc-le-zero}
 use native.Mathlib.Decide.{ℕ_discrete}
+use native.Mathlib.Numerals.{add-one}
 use native.Mathlib.Omega.{arith}
 use mathlib.Core.Path.{◌≡◌, refl, sym, ap, ap₂, subst, ◌∙◌}
 use mathlib.Core.Logic.{⊎_elim}
@@ -9,7 +10,7 @@ use mathlib.Core.Bool.{Bool, true, false, cond, not, ◌&&◌, ◌||◌, true≢
 use borrow.Author.Tests.{eq-eqb, ne_eqb}
 use lib.Dec.{eqb}
 use Rattle.rules.specs.First.{count, every, some}
-use Rattle.rules.proofs.Bools.{tested, torn, and_left, and_right, and_true, and_fails, and_false_right, or_cases, or_none_left, or_none_right, if_then, not_then}
+use Rattle.rules.proofs.Bools.{tested, torn, and_left, and_right, and_true, and_fails, and_false_right, or_cases, or_false, or_none_left, or_none_right, if_then, not_then}
 
 -- what holds of each number below n, and of n, holds of each below suc n
 pub below_suc : (P : ℕ → Type 0) (n : ℕ) → ((i : ℕ) → i < n → P i) → P n → (i : ℕ) → i < suc n → P i
@@ -119,6 +120,13 @@ count_less p q (suc n) k up l out in' =
         )
     go rest (no d) = omega (arith, rest (omega arith), one_more (p n) (q n) (up n (omega arith)))
 
+-- one number more, as a loop counts
+pub some_more : (p : ℕ → Bool) (n : ℕ) → some p n ≡ false → p n ≡ false → some p (n + 1) ≡ false
+some_more p n none here = rw add-one (or_false none here)
+
+pub every_more : (p : ℕ → Bool) (n : ℕ) → every p n ≡ true → p n ≡ true → every p (n + 1) ≡ true
+every_more p n all here = rw add-one (and_true all here)
+
 -- each that passes p passes q where as many pass both as pass p
 pub count_within : (p q : ℕ → Bool) (n : ℕ) → every (λ i. not (p i) || q i) n ≡ eqb (count (λ i. p i && q i) n) (count p n)
 count_within p q n = ⊎_elim all_in some_out (tested (every (λ i. not (p i) || q i) n))
@@ -139,3 +147,7 @@ count_within p q n = ⊎_elim all_in some_out (tested (every (λ i. not (p i) ||
         let o = not_then (p f.0) (q f.0) f.2 in
         let l = count_less (λ i. p i && q i) p n f.0 (λ i h k. and_left (p i) (q i) k) f.1 (and_false_right (p f.0) o.1) o.0 in
         e ∙ sym (ne_eqb (count (λ i. p i && q i) n) (count p n) (λ x. omega arith))
+
+-- what holds below a number holds below a lower one
+pub every_less : (p : ℕ → Bool) (m n : ℕ) → m ≤ n → every p n ≡ true → every p m ≡ true
+every_less p m n l e = every_of p m (λ i h. every_at p n e i (omega arith))

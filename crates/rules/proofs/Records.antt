@@ -12,7 +12,7 @@ use Rattle.rules.specs.declared.Kind.{Kind}
 use Rattle.rules.specs.declared.Kind.TheVariants.{Election, Command, Change, Commit}
 use Rattle.rules.specs.Nodes.{has}
 use Rattle.rules.specs.Records.{commit_kind, is_commit, above, held_by, holds, called}
-use Rattle.rules.proofs.Bools.{tested}
+use Rattle.rules.proofs.Bools.{tested, or_nothing}
 
 -- a < b tested, from either side of the answer
 agree : (a b c d : ℕ) → (a < b → c < d) → (b ≤ a → d ≤ c) → ltb a b ≡ ltb c d
@@ -129,3 +129,24 @@ holds_caller i r node z e = rw (ne_eqb i 0 (omega arith)) (alone r.kind e)
 pub holds_voters : (i : ℕ) (r : Record) (voters node : ℕ) → 0 < i → r.kind ≡ Commit voters → holds i r node ≡ has voters node
 unfolding holds
 holds_voters i r voters node z e = rw (ne_eqb i 0 (omega arith), e)
+
+-- the order, test by test
+pub above_by_time : (a b : Record) → (a.time ≡ b.time → ⊥) → above a b ≡ ltb b.time a.time
+unfolding above
+above_by_time a b d = rw (ne_eqb b.time a.time (λ e. d (sym e))) (or_nothing (ltb b.time a.time))
+
+pub above_by_version : (a b : Record) → a.time ≡ b.time → (a.version ≡ b.version → ⊥) → above a b ≡ ltb b.version a.version
+unfolding above
+above_by_version a b e d =
+    rw (le-ltb b.time a.time (omega arith), eq-eqb b.time a.time (sym e), ne_eqb b.version a.version (λ x. d (sym x)))
+    (or_nothing (ltb b.version a.version))
+
+pub above_by_kind : (a b : Record) → a.time ≡ b.time → a.version ≡ b.version → above a b ≡ is_commit a && not (is_commit b)
+unfolding above
+above_by_kind a b e f =
+    rw (
+      le-ltb b.time a.time (omega arith),
+      eq-eqb b.time a.time (sym e),
+      le-ltb b.version a.version (omega arith),
+      eq-eqb b.version a.version (sym f),
+    )

@@ -1,25 +1,27 @@
 -- All commits lie on the latest commit's path exactly where that path has as many commits as there are.
 -- A path has no record twice, so counting along it is counting the records on it.
-use Prim.Native.Nat.{ℕ, zero, suc, ◌+◌, ◌<◌}
+use Prim.Native.Nat.{ℕ, zero, suc, ◌+◌, ◌≤◌, ◌<◌}
 use native.Mathlib.Nat.{not-suc-le-zero}
 use native.Mathlib.Decide.{ℕ_discrete}
 use native.Mathlib.Omega.{arith}
-use mathlib.Core.Path.{◌≡◌, refl, sym, ap, ◌∙◌}
+use mathlib.Core.Path.{◌≡◌, refl, sym, ap, ap₂, ◌∙◌}
 use mathlib.Core.Bool.{Bool, true, false, cond, ◌&&◌, ◌||◌}
 use mathlib.Core.List.{List, [], ◌∷◌}
 use borrow.Author.Tests.{eq-eqb, ne_eqb}
 use lib.Dec.{eqb}
-use lib.ListN.{length}
+use lib.ListN.{length, take}
+use lib.Seq.{get_or-take}
 use Rattle.std.specs.List.{filter}
 use Rattle.rules.specs.declared.Record.{Record}
 use Rattle.rules.specs.First.{count}
-use Rattle.rules.specs.Records.{at, is_commit}
-use Rattle.rules.specs.Tree.{path, among, on_path, latest_commit}
+use Rattle.rules.specs.Records.{blank, at, is_commit}
+use Rattle.rules.specs.Tree.{path_of, path, among, on_path, latest_commit}
 use Rattle.rules.specs.State.{one_branch}
 use Rattle.rules.proofs.Bools.{or_right, or_left, and_false_right}
 use Rattle.rules.proofs.First.{one, count_same, count_none, count_within, some_false}
 use Rattle.rules.proofs.Latest.{latest_commit_known}
 use Rattle.rules.proofs.Paths.{Rising, Once, path_once, path_known}
+use Rattle.paths.proofs.Shown.{Below, steps_below, path_shown}
 use Rattle.tables.specs.Table.{commits_in, commits_along}
 
 -- one number more in a list that lacks it is one place more
@@ -71,3 +73,15 @@ branch_count records up l =
     count_within (λ j. is_commit (at records j)) (λ j. among j (path records last)) (length records)
     ∙ ap (λ m. eqb m (count (λ j. is_commit (at records j)) (length records)))
     (sym (along records (path records last) (length records) (path_once records up last here) (path_known records up last here)))
+
+-- the array and the table have the same commits along numbers below n
+same_commits : (rs : List Record) (n : ℕ) (p : List ℕ) → Below n p → commits_along rs p ≡ commits_along (take n rs) p
+same_commits rs n [] h = refl
+same_commits rs n (i ∷ p) h =
+    ap₂ (λ (r : Record) (m : ℕ). cond (is_commit r) 1 0 + m) (sym (get_or-take n rs i blank h.0)) (same_commits rs n p h.1)
+
+-- so a path in the array has the commits of the path in the table
+pub commits_shown : (rs : List Record) (n : ℕ) (fits : n ≤ length rs) (up : Rising (take n rs)) (i : ℕ) → i < n
+    → commits_along rs (path_of rs n i) ≡ commits_along (take n rs) (path (take n rs) i)
+commits_shown rs n fits up i l =
+    same_commits rs n (path_of rs n i) (steps_below rs n fits up n i l) ∙ ap (commits_along (take n rs)) (path_shown rs n fits up i l)

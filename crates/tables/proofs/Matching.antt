@@ -1,6 +1,6 @@
 -- The log read from its end against the entries that a walk up a path meets, latest first.
-use Prim.Native.Nat.{ℕ, zero, suc, ◌-◌, ◌≤◌, ◌<◌}
-use native.Mathlib.Nat.{not-suc-le-zero}
+use Prim.Native.Nat.{ℕ, zero, suc, ◌-◌, ◌≤◌, ◌<◌, min}
+use native.Mathlib.Nat.{not-suc-le-zero, le_of_suc-le-suc, zero-min, suc-min-suc}
 use native.Mathlib.Decide.{ℕ_discrete}
 use native.Mathlib.Omega.{arith}
 use mathlib.Core.Path.{◌≡◌, refl, sym, ap, ◌∙◌}
@@ -13,6 +13,7 @@ use lib.Seq.{take-suc, take-length}
 use Rattle.std.specs.Cmp.Lexicographic.{pointwise}
 use Rattle.std.proofs.lemmas.List.{reverse-append}
 use Rattle.rules.specs.State.{same}
+use Rattle.records.specs.Used.{used}
 
 -- Two lists, compared from their ends.
 
@@ -38,6 +39,23 @@ matches log place xs = same (take place log) (reverse xs)
 
 last_place : (log : List ℕ) (place : ℕ) → place < length log → reverse (take (suc place) log) ≡ get_or log place 0 ∷ reverse (take place log)
 last_place log place l = rw (take-suc log place 0 l) (reverse-append (take place log) (get_or log place 0 ∷ []))
+
+-- a list has no more to take than its length
+take_min : (n m : ℕ) (log : List ℕ) → length log ≤ m → take (min n m) log ≡ take n log
+take_min zero m log l = ap (λ (k : ℕ). take k log) (zero-min m)
+take_min (suc n) m [] l = none (min (suc n) m)
+  where
+    none : (k : ℕ) → take {A = ℕ} k [] ≡ []
+    none zero = refl
+    none (suc k) = refl
+take_min (suc n) zero (a ∷ log) l = absurd (not-suc-le-zero l)
+take_min (suc n) (suc m) (a ∷ log) l =
+    ap (λ (k : ℕ). take k (a ∷ log)) (suc-min-suc n m) ∙ ap (λ (t : List ℕ). a ∷ t) (take_min n m log (le_of_suc-le-suc l))
+
+-- a log of 256 places is read from the last place in use
+pub match_used : (log : List ℕ) (n : ℕ) (xs : List ℕ) → length log ≡ 256 → matches log n xs ≡ matches log (used n) xs
+unfolding used
+match_used log n xs e = ap (λ (t : List ℕ). same t (reverse xs)) (sym (take_min n 256 log (omega (arith, e))))
 
 -- no entry is left: they match where no number of the log is left either
 pub match_none : (log : List ℕ) (place : ℕ) → place ≤ length log → matches log place [] ≡ eqb place 0
